@@ -1,0 +1,12 @@
+pub mod Codes
+pub mod Faults
+pub mod Names
+pub mod Terms
+pub mod Functions
+pub mod Rendering
+pub mod Plans
+pub mod Fields
+pub mod Values
+pub mod Questions
+pub mod Model
+pub mod Calls
