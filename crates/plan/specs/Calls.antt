@@ -25,7 +25,7 @@ use Rattle.plan.specs.Rendering.{rendered}
 use Rattle.plan.specs.Plans.{Plan, Key, fieldsOf, furtherInputs}
 use Rattle.plan.specs.Plans.Plan.{table, projection, filter, sort, limit, aggregate, join, subqueryAlias, union}
 use Rattle.plan.specs.Fields.{any, every}
-use Rattle.plan.specs.Faults.{Asked, firstNo, fault}
+use Rattle.plan.specs.Faults.{Asked, firstNo, refusal}
 use Rattle.plan.specs.Questions.{shownExpressions, smallTree, nodeAsked}
 use Rattle.plan.specs.Codes.{joinKindOf, directionOf}
 use Rattle.plan.specs.Model.{Space, space, fits, Within, Node, Model, exprIn, planIn, exprsIn, plansIn, noPlan, treesOf}
@@ -33,7 +33,6 @@ use Rattle.plan.specs.declared.fault.Question.{Question}
 use Rattle.plan.specs.declared.fault.Question.the-variants.{Present, Named, Bounded, Placed, Space as SpaceQuestion}
 use Rattle.plan.specs.declared.fault.Question.the-variants.{Limited}
 use Rattle.plan.specs.declared.fault.Fault.{Fault}
-use Rattle.plan.specs.declared.fault.Stage.the-variants.{Call as CallStage}
 use Rattle.plan.specs.declared.code.JoinKind.{JoinKind}
 use Rattle.plan.specs.declared.code.JoinKind.the-variants.{Inner}
 use Rattle.plan.specs.declared.code.Direction.{Direction}
@@ -268,10 +267,6 @@ pub record Made (m : Model) (c : Call) (r : ℕ) (m′ : Model) : Type 0 where
   pub bytes : List ℕ
   pub text : m′ .text ≡ m .text ++ bytes
   pub spent : Within (m .used) (outlay m c) (m′ .used)
-
--- a building call is refused at stage 1, level 0
-abbrev pub refusal : Question → Fault
-refusal q = fault q CallStage 0
 
 -- the first question answered no; or no space, and then the outlay does not fit
 abbrev pub Refusal : Model → Call → Fault → Type 0

@@ -1,9 +1,13 @@
 -- Refusals; cited by every call that can refuse.
 --     questionNumber q, stageNumber s      the numbers that a refusal is known by
 --     firstNo qs      of questions with their answers, the first that was answered no
+--     refusal q      the refusal of a building call: stage 1, level 0
 use Prim.Native.Nat.{ℕ}
-use mathlib.Core.Bool.{Bool, cond}
+use mathlib.Core.Bool.{Bool, true, false, cond}
 use mathlib.Core.List.{List, [], _∷_}
+use mathlib.Core.Path.{_≡_}
+use Rattle.std.specs.declared.result.Result.{Result}
+use Rattle.std.specs.declared.result.Result.the-variants.{Ok, Err}
 use Rattle.std.specs.declared.option.Option.{Option}
 use Rattle.std.specs.declared.option.Option.the-variants.{None, Some}
 use Rattle.plan.specs.declared.fault.Question.{Question}
@@ -42,3 +46,17 @@ Asked = Question × Bool
 abbrev pub firstNo : List Asked → Option Question
 firstNo [] = None
 firstNo (a ∷ later) = cond (a .1) (firstNo later) (Some (a .0))
+
+-- a building call is refused at stage 1, level 0
+abbrev pub refusal : Question → Fault
+refusal q = fault q Call 0
+
+-- what one question comes to
+abbrev pub Decided : {A : Type 0} → Bool → Question → Result A Fault → Type 0
+Decided b q (Ok v) = b ≡ true
+Decided b q (Err f) = (b ≡ false) × (f ≡ refusal q)
+
+-- a call that is decided by its questions and then holds P of its answer; refused, it holds Q
+abbrev pub Settled : {A : Type 0} → List Asked → (A → Type 0) → Type 0 → Result A Fault → Type 0
+Settled qs P Q (Ok v) = (firstNo qs ≡ None) × P v
+Settled qs P Q (Err f) = (firstNo qs ≡ Some (f .question)) × (f ≡ refusal (f .question)) × Q

@@ -10,3 +10,4 @@ pub mod Values
 pub mod Questions
 pub mod Model
 pub mod Calls
+pub mod Declaring

@@ -1,5 +1,5 @@
 //! Why a call is refused: the question that was answered no, the stage and the level.
-ghost use Rattle.plan.specs.Faults.{questionNumber, stageNumber};
+ghost use Rattle.plan.specs.Faults.{Decided, questionNumber, stageNumber};
 ghost use mathlib.Core.Path.{_≡_};
 
 /// The questions that a call is asked, in their order: the first no decides.
@@ -83,4 +83,18 @@ impl Stage {
             Stage::Closing => 6,
         }
     }
+}
+
+/// A question of a building call: refused at stage 1, level 0, where the answer is no.
+pub fn ask(granted: bool, question: Question) -> Result<(), Fault>
+    ensures { λ r. ⌜ Decided granted question r ⌝ }
+{
+    if granted {
+        return Ok(());
+    }
+    Err(Fault {
+        question,
+        stage: Stage::Call,
+        level: 0,
+    })
 }

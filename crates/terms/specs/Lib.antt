@@ -1,0 +1,5 @@
+pub mod Spans
+pub mod Acceptance
+pub mod Build
+pub mod Lexicon
+pub mod Views
