@@ -97,7 +97,8 @@ fn decimal_len(n: u64) -> usize
 
 /// How many bytes `write_signed` writes.
 pub fn signed_len(z: i64) -> usize
-    ensures { λ r. ⌜ r ≡ length (signed z) ⌝ }
+    ensures value { λ r. ⌜ r ≡ length (signed z) ⌝ }
+    ensures bound { λ r. ⌜ r ≤ 21 ⌝ }
 {
     let long = decimal_len(z.unsigned_abs());
     if z < 0 { long + 1 } else { long }

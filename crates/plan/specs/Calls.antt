@@ -2,14 +2,14 @@
 --     Call, Answer      a call as a value; what it answers
 --     asked m c      the questions 1 to 8 of the call c in the book m, with their answers
 --     newExprs m c, newPlans m c      the trees that it adds
---     outlay m c      the places that it may use
+--     outlay m c      the places that it uses
+--     allAsked m c      all nine questions, with their answers
 --     Answers m c a m′      in the book m, the call c answers a and leaves m′
 use Prim.Native.Nat.{ℕ, _+_}
 use lib.Dec.{leb, ltb, eqb}
 use lib.ListN.{length}
 use mathlib.Core.Bool.{Bool, true, false, not, _&&_, _||_, cond}
 use mathlib.Core.List.{List, [], _∷_, _++_, map}
-use mathlib.Core.Logic.{_⊎_}
 use mathlib.Core.Path.{_≡_}
 use Rattle.std.specs.Options.{isSome}
 use Rattle.std.specs.declared.option.Option.{Option}
@@ -28,7 +28,7 @@ use Rattle.plan.specs.Fields.{any, every}
 use Rattle.plan.specs.Faults.{Asked, firstNo, refusal}
 use Rattle.plan.specs.Questions.{shownExpressions, smallTree, nodeAsked}
 use Rattle.plan.specs.Codes.{joinKindOf, directionOf}
-use Rattle.plan.specs.Model.{Space, space, fits, Within, Node, Model, exprIn, planIn, exprsIn, plansIn, noPlan, treesOf}
+use Rattle.plan.specs.Model.{Space, space, fits, plus, Node, Model, exprIn, planIn, exprsIn, plansIn, noPlan, treesOf}
 use Rattle.plan.specs.declared.fault.Question.{Question}
 use Rattle.plan.specs.declared.fault.Question.the-variants.{Present, Named, Bounded, Placed, Space as SpaceQuestion}
 use Rattle.plan.specs.declared.fault.Question.the-variants.{Limited}
@@ -166,10 +166,10 @@ asked m (makeLiteral (real x)) = []
 asked m (makeLiteral (text t)) = (Named, goodName t) ∷ []
 asked m (makeReference f) = (Named, goodField f) ∷ []
 asked m (makeAlias e f) =
-    (Present, below (length (m .exprs)) e) ∷ (Named, goodAlias f) ∷ (Limited, every smallTree (newExprs m (makeAlias e f))) ∷ []
+    (Present, below (length (m .exprs)) e) ∷ (Named, goodAlias f) ∷ (Limited, smallTree (alias (exprIn (m .exprs) e) f)) ∷ []
 asked m (makeCall n es) =
     (Present, isSome (functionAt (m .functions) n) && allBelow (length (m .exprs)) es) ∷ (Bounded, arityIs (functionAt (m .functions) n) (length es))
-    ∷ (Placed, not (any (isTotal (m .functions)) (exprsIn (m .exprs) es))) ∷ (Limited, every smallTree (newExprs m (makeCall n es))) ∷ []
+    ∷ (Placed, not (any (isTotal (m .functions)) (exprsIn (m .exprs) es))) ∷ (Limited, smallTree (call n (arguments (exprsIn (m .exprs) es)))) ∷ []
 asked m (makeTable q ns) =
     (Named, goodName q && every goodName (parts ns)) ∷ (Bounded, leb (length (parts ns)) 64) ∷ madeAsked m (makeTable q ns)
 asked m (makeProjection i es) =
@@ -257,23 +257,25 @@ numberOfNew m (makeJoin k l r cs) = length (m .plans)
 numberOfNew m (makeSubqueryAlias i n) = length (m .plans)
 numberOfNew m (makeUnion is) = length (m .plans)
 
--- what was there is still there, and the new is behind it; the text is longer by some bytes
+-- the nine questions in order; the last asks for space
+abbrev pub allAsked : Model → Call → List Asked
+allAsked m c = asked m c ++ (SpaceQuestion, fits (m .used) (outlay m c)) ∷ []
+
+-- what was there is still there, and the new is behind it; which bytes the text has more is left free
 pub record Made (m : Model) (c : Call) (r : ℕ) (m′ : Model) : Type 0 where
-  pub accepted : firstNo (asked m c) ≡ None
+  pub accepted : firstNo (allAsked m c) ≡ None
   pub number : r ≡ numberOfNew m c
   pub functions : m′ .functions ≡ m .functions
   pub exprs : m′ .exprs ≡ m .exprs ++ newExprs m c
   pub plans : m′ .plans ≡ m .plans ++ newPlans m c
   pub bytes : List ℕ
   pub text : m′ .text ≡ m .text ++ bytes
-  pub spent : Within (m .used) (outlay m c) (m′ .used)
+  pub used : m′ .used ≡ plus (m .used) (outlay m c)
 
--- the first question answered no; or no space, and then the outlay does not fit
-abbrev pub Refusal : Model → Call → Fault → Type 0
-Refusal m c f =
-    (firstNo (asked m c) ≡ Some (f .question)) × (f ≡ refusal (f .question))
-    ⊎ (firstNo (asked m c) ≡ None) × (fits (m .used) (outlay m c) ≡ false) × (f ≡ refusal SpaceQuestion)
+-- the first question answered no, and the book is as it was
+abbrev pub Refused : Model → Call → Fault → Model → Type 0
+Refused m c f m′ = (firstNo (allAsked m c) ≡ Some (f .question)) × (f ≡ refusal (f .question)) × (m′ ≡ m)
 
 abbrev pub Answers : Model → Call → Answer → Model → Type 0
 Answers m c (made r) m′ = Made m c r m′
-Answers m c (refused f) m′ = (m′ ≡ m) × Refusal m c f
+Answers m c (refused f) m′ = Refused m c f m′

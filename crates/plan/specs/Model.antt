@@ -1,7 +1,7 @@
 -- What a book holds, as contracts speak of it: trees, never table cells.
---     Space, fits      how much of each table is used; whether so much more has room
+--     Space, fits, plus      how much of each table is used; whether so much more has room; both together
 --     Node, Model      a plan with its origin; a book
-use Prim.Native.Nat.{ℕ, _+_, _≤_}
+use Prim.Native.Nat.{ℕ, _+_}
 use lib.Dec.{leb}
 use lib.ListN.{length, getD}
 use mathlib.Core.Bool.{Bool, _&&_}
@@ -33,13 +33,8 @@ fits used more =
     (leb (used .exprs + more .exprs) 1024 && leb (used .plans + more .plans) 128)
     && (leb (used .entries + more .entries) 2048 && (leb (used .fields + more .fields) 2048 && leb (used .bytes + more .bytes) 16384))
 
--- no table grows by more than so much
-pub record Within (used more after : Space) : Type 0 where
-  pub exprs : after .exprs ≤ used .exprs + more .exprs
-  pub plans : after .plans ≤ used .plans + more .plans
-  pub entries : after .entries ≤ used .entries + more .entries
-  pub fields : after .fields ≤ used .fields + more .fields
-  pub bytes : after .bytes ≤ used .bytes + more .bytes
+abbrev pub plus : Space → Space → Space
+plus a b = space (a .exprs + b .exprs) (a .plans + b .plans) (a .entries + b .entries) (a .fields + b .fields) (a .bytes + b .bytes)
 
 -- the origin is the number of the node that this one was made from; at first its own
 pub record Node : Type 0 where

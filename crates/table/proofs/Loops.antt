@@ -29,3 +29,11 @@ module _ {X Y : Type 0} (p : Y → Bool) (f : X → Y) (xs : List X) (i : ℕ) (
 
 pub counted-all : {X Y : Type 0} (p : Y → Bool) (f : X → Y) (xs : List X) (i n : ℕ) → length xs ≤ i → n ≡ countBy p (take i (map f xs)) → n ≡ countBy p (map f xs)
 counted-all p f xs i n le h = h ∙ ap (countBy p) (take-all i (map f xs) (omega (arith, length-map xs f)))
+
+-- the same where a list is mapped twice
+pub twice-step : {X Y W Z : Type 0} (F : List W → Z) (f : Y → W) (g : X → Y) (xs : List X) (i : ℕ) (d : X) → i < length xs → F (drop i (map f (map g xs))) ≡ F (f (g (getD xs i d)) ∷ drop (i + 1) (map f (map g xs)))
+twice-step F f g xs i d lt =
+    mapped-step F f (map g xs) i (g d) (omega (arith, length-map xs g)) ∙ ap (λ y. F (f y ∷ drop (i + 1) (map f (map g xs)))) (getD-map g xs i d (g d) lt)
+
+pub twice-end : {X Y W Z : Type 0} (F : List W → Z) (f : Y → W) (g : X → Y) (xs : List X) (i : ℕ) → length xs ≤ i → F (drop i (map f (map g xs))) ≡ F []
+twice-end F f g xs i le = mapped-end F f (map g xs) i (omega (arith, length-map xs g))

@@ -1,12 +1,15 @@
 -- The facts that a table of expressions keeps, as its parts grow.
-use Prim.Native.Nat.{ℕ, _+_, _<_}
+use Prim.Native.Nat.{ℕ, _+_, _<_, _≤_}
+use Rattle.plan.specs.Model.{Space}
+use Rattle.terms.specs.Building.{roomy}
 use native.Mathlib.Omega.{arith}
 use lib.ListN.{length, getD}
-use mathlib.Core.Bool.{Bool, true, _&&_}
+use mathlib.Core.Bool.{Bool, true, false, _&&_}
 use mathlib.Core.List.{List, [], _∷_, _++_, map}
 use mathlib.Core.Path.{_≡_, refl, sym, _∙_, ap, ap₂}
-use Rattle.std.proofs.shelf.Lists.{map-push, append-nil, getD-map}
-use Rattle.std.proofs.shelf.Tests.{and-from}
+use Rattle.std.proofs.shelf.Lists.{map-push, append-nil, append-assoc, getD-map}
+use Rattle.std.proofs.shelf.Tests.{and-from, and-parts, le-leb, lt-leb, leb-true, leb-false}
+use lib.Dec.{leb}
 use Rattle.table.specs.Contents.{contents}
 use Rattle.plan.specs.Terms.{Expr, sizeOf}
 use Rattle.plan.specs.Functions.{Functions}
@@ -70,3 +73,28 @@ counted t = trees-length (textOf (t .lexicon)) (contents (t .entries)) (contents
 pub kept-at : (f : ExprRecord → ℕ) (g : Expr → ℕ) (rs : List ExprRecord) (ts : List Expr) (i : ℕ) (r : ExprRecord) → length ts ≡ length rs → i < length rs → map f rs ≡ map g ts → r ≡ getD rs i r → f r ≡ g (exprIn ts i)
 kept-at f g rs ts i r n l e h =
     ap f h ∙ sym (getD-map f rs i r 0 l) ∙ ap (λ xs. getD xs i 0) e ∙ getD-map g ts i noExpr 0 (omega arith)
+
+-- two texts written one after the other
+pub grown-twice : (v w u : View) (n q : List ℕ) → w ≡ grown v [] n [] → u ≡ grown w [] q [] → u ≡ grown v [] (n ++ q) []
+grown-twice v w u n q p r =
+    let a : u ≡ grown (grown v [] n []) [] q [] = r ∙ ap (λ x. grown x [] q []) p in
+    a ∙ same-view v (v .functions) (v .trees) [] (v .bytes) (n ++ q) (v .entries) [] (v .functions) ((v .trees ++ []) ++ []) ((v .bytes ++ n) ++ q) ((v .entries ++ []) ++ []) refl refl (append-nil (v .trees ++ [])) (append-assoc (v .bytes) n q) (append-nil (v .entries ++ []))
+
+-- so much has room exactly if with what is there it does not pass the end
+pub shifted : (m k n N : ℕ) → k + n ≡ N → leb m k ≡ leb (n + m) N
+shifted m k n N h = go (leb m k) refl
+  where
+    go : (b : Bool) → leb m k ≡ b → leb m k ≡ leb (n + m) N
+    go true e = e ∙ sym (le-leb (n + m) N (omega (arith, leb-true m k e)))
+    go false e = e ∙ sym (lt-leb (n + m) N (omega (arith, leb-false m k e)))
+
+-- what room for so much says of each table
+pub roomy-parts : (v : View) (s : Space) → roomy v s ≡ true → (length (v .trees) + s .exprs ≤ 1024) × (length (v .entries) + s .entries ≤ 2048) × (length (v .bytes) + s .bytes ≤ 16384)
+roomy-parts v s h =
+    let p = and-parts (leb (length (v .trees) + s .exprs) 1024) (leb (length (v .entries) + s .entries) 2048 && leb (length (v .bytes) + s .bytes) 16384) h in
+    let q = and-parts (leb (length (v .entries) + s .entries) 2048) (leb (length (v .bytes) + s .bytes) 16384) (p .1) in
+    (leb-true _ _ (p .0), leb-true _ _ (q .0), leb-true _ _ (q .1))
+
+-- a text that is written adds no tree
+pub same-count : (v v′ : View) (bs : List ℕ) (es : List Entry) → v′ ≡ grown v [] bs es → length (v′ .trees) ≡ length (v .trees)
+same-count v v′ bs es e = ap (λ x. length (x .trees)) e ∙ ap length (append-nil (v .trees))

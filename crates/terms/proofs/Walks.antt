@@ -6,7 +6,7 @@ use lib.ListN.{length, getD, drop}
 use mathlib.Core.Bool.{Bool, true, false, _&&_, _||_, not}
 use mathlib.Core.List.{List, [], _∷_, _++_, map}
 use mathlib.Core.Path.{_≡_, refl, sym, _∙_, ap, ap₂}
-use Rattle.std.proofs.shelf.Lists.{length-map}
+use Rattle.std.proofs.shelf.Lists.{length-map, getD-map}
 use Rattle.std.proofs.shelf.Tests.{and-parts, leb-true, ltb-true, le-ltb, lt-ltb, eq-eqb, ne-eqb}
 use Rattle.std.proofs.shelf.Sums.{sumBy-append}
 use Rattle.std.specs.shelf.Lists.{countBy}
@@ -19,7 +19,9 @@ use Rattle.plan.specs.Fields.{any, every, named, resolves, resolved}
 use Rattle.plan.specs.Model.{exprIn, exprsIn}
 use Rattle.plan.specs.Calls.{below, allBelow}
 use Rattle.terms.specs.Build.{entryNumber, numbersIn, insideNode}
+use Rattle.terms.specs.Views.{numbersOf}
 use Rattle.terms.specs.declared.node.Entry.{Entry}
+use Rattle.terms.specs.declared.node.ExprId.{ExprId}
 use Rattle.terms.specs.declared.node.ExprNode.the-variants.{Call}
 use Rattle.terms.proofs.Frames.{every-at}
 
@@ -66,3 +68,9 @@ same-number m n p q = go (eqb m 1) refl
     go : (b : Bool) → eqb m 1 ≡ b → eqb m 1 ≡ eqb n 1
     go true e = e ∙ sym (eq-eqb n 1 (p (Rattle.std.proofs.shelf.Tests.eqb-true m 1 e)))
     go false e = e ∙ sym (ne-eqb n 1 (λ h. Rattle.std.proofs.shelf.Tests.eqb-false m 1 e (q h)))
+
+-- an expression of a list whose numbers all stand in the book
+pub one-below : (n : ℕ) (ids : List ExprId) (i : ℕ) (d : ExprId) → i < length ids → allBelow n (numbersOf ids) ≡ true → getD ids i d .0 < n
+one-below n ids i d lt h =
+    let e = getD-map (λ x. x .0) ids i d (d .0) lt in
+    omega (arith, e, ltb-true _ _ (every-at (below n) (numbersOf ids) i (d .0) (omega (arith, length-map ids (λ x. x .0))) h))

@@ -1,8 +1,9 @@
 -- What the calls that make an expression or declare a function let pass.
 --     declared f      a declaration that was accepted
 --     acceptable fs e      an expression each node of which its own building call accepts
-use Prim.Native.Nat.{ℕ}
-use lib.Dec.{leb}
+use Prim.Native.Nat.{ℕ, _^_}
+use lib.Dec.{leb, ltb}
+use lib.Signed.{mag}
 use mathlib.Core.Bool.{Bool, true, not, _&&_}
 use Rattle.std.specs.declared.option.Option.{Option}
 use Rattle.std.specs.declared.option.Option.the-variants.{None, Some}
@@ -21,10 +22,11 @@ abbrev pub goodFunction : Option Function → Bool
 goodFunction None = true
 goodFunction (Some f) = (goodName (f .name) && not (prefixed (f .name))) && leb (f .arity) 4
 
+-- whole numbers have 64 bits
 abbrev pub goodLiteral : Literal → Bool
 goodLiteral null = true
 goodLiteral (truth b) = true
-goodLiteral (whole n) = true
+goodLiteral (whole n) = ltb (mag n) (2 ^ 63)
 goodLiteral (real x) = true
 goodLiteral (text t) = goodName t
 

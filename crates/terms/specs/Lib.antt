@@ -3,3 +3,4 @@ pub mod Acceptance
 pub mod Build
 pub mod Lexicon
 pub mod Views
+pub mod Building

@@ -1,10 +1,11 @@
 -- What spans of the text stand for.
 --     word bytes s, spanIn bytes s      the part of the text that a span names; whether it is inside
 --     qualifierAt, fieldAt, literalAt, functionIn      the same of what holds spans
-use Prim.Native.Nat.{ℕ, _+_}
-use lib.Dec.{leb}
+use Prim.Native.Nat.{ℕ, _+_, _^_}
+use lib.Dec.{leb, ltb}
+use lib.Signed.{mag}
 use lib.ListN.{length}
-use mathlib.Core.Bool.{Bool, true, _&&_}
+use mathlib.Core.Bool.{Bool, true, false, _&&_}
 use mathlib.Core.List.{List, [], _∷_, map}
 use Rattle.std.specs.declared.option.Option.{Option}
 use Rattle.std.specs.declared.option.Option.the-variants.{None, Some}
@@ -73,3 +74,11 @@ functionsIn bytes ds = map (functionIn bytes) ds
 abbrev pub declarationIn : List ℕ → Option Declaration → Bool
 declarationIn bytes None = true
 declarationIn bytes (Some d) = spanIn bytes (d .name)
+
+-- a literal that holds no span and fits its type
+abbrev pub plainLiteral : Literal → Bool
+plainLiteral Null = true
+plainLiteral (Truth b) = true
+plainLiteral (Whole n) = ltb (mag n) (2 ^ 63)
+plainLiteral (Real x) = true
+plainLiteral (Text s) = false

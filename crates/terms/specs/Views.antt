@@ -4,7 +4,7 @@
 --     treeOf t e      the tree of an expression
 use Prim.Native.Nat.{ℕ, _<_, _≤_}
 use lib.ListN.{length}
-use mathlib.Core.List.{List, [], _++_}
+use mathlib.Core.List.{List, [], _++_, map}
 use mathlib.Core.Path.{_≡_}
 use Rattle.table.specs.Contents.{contents}
 use Rattle.plan.specs.Terms.{Expr}
@@ -13,6 +13,7 @@ use Rattle.plan.specs.Model.{exprIn}
 use Rattle.terms.specs.Build.{trees, buildNode}
 use Rattle.terms.specs.Lexicon.{textOf, functionsOf}
 use Rattle.terms.specs.declared.node.Entry.{Entry}
+use Rattle.terms.specs.declared.node.ExprId.{ExprId}
 use Rattle.terms.specs.declared.node.ExprNode.{ExprNode}
 use Rattle.terms.specs.declared.terms.Terms.{Terms}
 
@@ -42,3 +43,7 @@ count t = length (viewOf t .trees)
 -- the tree that a node would be
 abbrev pub treeFor : Terms → ExprNode → Expr
 treeFor t n = buildNode (viewOf t .bytes) (viewOf t .entries) (viewOf t .trees) n
+
+-- the numbers of a list of expressions
+abbrev pub numbersOf : List ExprId → List ℕ
+numbersOf ids = map (λ e. e .0) ids

@@ -14,6 +14,8 @@ use crate::node::ExprRecord;
 use table::table::Table;
 
 mod adding;
+mod building;
+mod calling;
 mod reading;
 mod rendering;
 mod resolving;
