@@ -1,0 +1,3 @@
+//! Plans in fixed tables, and the calls that build them.
+pub mod node;
+pub mod tables;
