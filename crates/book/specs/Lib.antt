@@ -1,1 +1,4 @@
 pub mod Stored
+pub mod Holding
+pub mod Reading
+pub mod Making

@@ -12,18 +12,48 @@ pub struct Run {
     pub count: u32,
 }
 
-/// One node of a plan; its lists stand in the list table.
+/// One node of a plan; its lists stand in the list table. A Table keeps its own number.
 #[derive(Clone, Copy)]
 pub enum PlanNode {
-    Table { qualifier: Span },
-    Projection { input: PlanId, list: Run },
-    Filter { input: PlanId, predicate: ExprId },
-    Sort { input: PlanId, keys: Run },
-    Limit { input: PlanId, skip: u32, count: u32 },
-    Aggregate { input: PlanId, groups: Run, totals: Run },
-    Join { kind: JoinKind, left: PlanId, right: PlanId, on: Run },
-    SubqueryAlias { input: PlanId, name: Span },
-    Union { inputs: Run },
+    Table {
+        number: PlanId,
+        qualifier: Span,
+    },
+    Projection {
+        input: PlanId,
+        list: Run,
+    },
+    Filter {
+        input: PlanId,
+        predicate: ExprId,
+    },
+    Sort {
+        input: PlanId,
+        keys: Run,
+    },
+    Limit {
+        input: PlanId,
+        skip: u32,
+        count: u32,
+    },
+    Aggregate {
+        input: PlanId,
+        groups: Run,
+        totals: Run,
+    },
+    Join {
+        kind: JoinKind,
+        left: PlanId,
+        right: PlanId,
+        on: Run,
+    },
+    SubqueryAlias {
+        input: PlanId,
+        name: Span,
+    },
+    Union {
+        inputs: Run,
+    },
 }
 
 /// A node with its fields, the size of its tree, and its origin.
@@ -45,13 +75,43 @@ pub struct SortKey {
 /// A node that is to be made.
 #[derive(Clone, Copy)]
 pub enum NewNode<'a> {
-    Table { qualifier: &'a [u8], names: &'a [u8] },
-    Projection { input: PlanId, list: &'a [ExprId] },
-    Filter { input: PlanId, predicate: ExprId },
-    Sort { input: PlanId, keys: &'a [SortKey] },
-    Limit { input: PlanId, skip: u32, count: u32 },
-    Aggregate { input: PlanId, groups: &'a [ExprId], totals: &'a [ExprId] },
-    Join { kind: JoinKind, left: PlanId, right: PlanId, on: &'a [ExprId] },
-    SubqueryAlias { input: PlanId, name: &'a [u8] },
-    Union { inputs: &'a [PlanId] },
+    Table {
+        qualifier: &'a [u8],
+        names: &'a [u8],
+    },
+    Projection {
+        input: PlanId,
+        list: &'a [ExprId],
+    },
+    Filter {
+        input: PlanId,
+        predicate: ExprId,
+    },
+    Sort {
+        input: PlanId,
+        keys: &'a [SortKey],
+    },
+    Limit {
+        input: PlanId,
+        skip: u32,
+        count: u32,
+    },
+    Aggregate {
+        input: PlanId,
+        groups: &'a [ExprId],
+        totals: &'a [ExprId],
+    },
+    Join {
+        kind: JoinKind,
+        left: PlanId,
+        right: PlanId,
+        on: &'a [ExprId],
+    },
+    SubqueryAlias {
+        input: PlanId,
+        name: &'a [u8],
+    },
+    Union {
+        inputs: &'a [PlanId],
+    },
 }

@@ -13,6 +13,8 @@ use table::table::Table;
 use terms::node::StoredField;
 use terms::terms::Terms;
 
+mod reading;
+
 #[derive(Drop)]
 pub struct Tables {
     terms: Terms,

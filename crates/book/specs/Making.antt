@@ -1,0 +1,135 @@
+-- A node that is to be made; cited by src/tables/making.rt and the modules beside it.
+--     treeFor t n      the tree that it would be
+--     namesIn, inputsIn, present t n, bounded n, wellNamed n      what a building call has asked before: 1, 2 and 3
+--     entriesFor n, bytesFor n      the list entries and the bytes of its own that it takes
+--     nodeQuestions t n      questions 6 to 9 with their answers
+--     NodeMade t n r t′      what making it comes to
+use Prim.Native.Nat.{ℕ, _+_}
+use lib.Dec.{leb, ltb}
+use lib.ListN.{length}
+use mathlib.Core.Bool.{Bool, true, false, _&&_}
+use mathlib.Core.List.{List, [], _∷_, _++_, map}
+use mathlib.Core.Path.{_≡_}
+use denote.Ref.{RefT}
+use Rattle.std.specs.declared.option.Option.the-variants.{None, Some}
+use Rattle.std.specs.declared.result.Result.{Result}
+use Rattle.std.specs.declared.result.Result.the-variants.{Ok, Err}
+use Rattle.plan.specs.Names.{Name, goodName}
+use Rattle.plan.specs.Terms.{Expr}
+use Rattle.plan.specs.Plans.{Plan, Key, fieldsOf}
+use Rattle.plan.specs.Plans.Plan.{table, projection, filter, sort, limit, aggregate, join, subqueryAlias}
+use Rattle.plan.specs.Fields.{every}
+use Rattle.plan.specs.Faults.{Asked, firstNo, refusal}
+use Rattle.plan.specs.Questions.{nodeAsked}
+use Rattle.plan.specs.Model.{Model, Node, Space, plus, fits, exprIn, exprsIn, plansIn}
+use Rattle.plan.specs.Calls.{below, allBelow, between, parts, unionOf, nodeOutlay}
+use Rattle.plan.specs.declared.fault.Fault.{Fault}
+use Rattle.plan.specs.declared.fault.Question.the-variants.{Space as SpaceQuestion}
+use Rattle.terms.specs.Views.{numbersOf}
+use Rattle.terms.specs.declared.node.PlanId.{PlanId}
+use Rattle.book.specs.Holding.{viewIn, nodesOf, treesIn, treeIn, modelOf, planCount}
+use Rattle.book.specs.declared.node.NewNode.{NewNode}
+use Rattle.book.specs.declared.node.NewNode.the-variants.{Table, Projection, Filter, Sort, Limit, Aggregate, Join, SubqueryAlias, Union}
+use Rattle.book.specs.declared.node.SortKey.{SortKey}
+use Rattle.book.specs.declared.tables.Tables.{Tables}
+
+abbrev pub newKey : List Expr → SortKey → Key
+newKey ts k = record { by = exprIn ts (k .by .0); direction = k .direction }
+
+abbrev pub keyNumbers : List SortKey → List ℕ
+keyNumbers ks = map (λ k. k .by .0) ks
+
+abbrev pub inputNumbers : List PlanId → List ℕ
+inputNumbers ps = map (λ p. p .0) ps
+
+abbrev pub treeFor : Tables → NewNode → Plan
+treeFor t (Table q ns) = table (planCount t) (q .now) (parts (ns .now))
+treeFor t (Projection i l) = projection (exprsIn (viewIn t .trees) (numbersOf (l .now))) (treeIn t (i .0))
+treeFor t (Filter i e) = filter (exprIn (viewIn t .trees) (e .0)) (treeIn t (i .0))
+treeFor t (Sort i ks) = sort (map (newKey (viewIn t .trees)) (ks .now)) (treeIn t (i .0))
+treeFor t (Limit i s c) = limit s c (treeIn t (i .0))
+treeFor t (Aggregate i gs us) = aggregate (exprsIn (viewIn t .trees) (numbersOf (gs .now))) (exprsIn (viewIn t .trees) (numbersOf (us .now))) (treeIn t (i .0))
+treeFor t (Join k l r cs) = join k (exprsIn (viewIn t .trees) (numbersOf (cs .now))) (treeIn t (l .0)) (treeIn t (r .0))
+treeFor t (SubqueryAlias i n) = subqueryAlias (n .now) (treeIn t (i .0))
+treeFor t (Union is) = unionOf (plansIn (treesIn t) (inputNumbers (is .now)))
+
+-- every node and expression that it names stands in the book
+abbrev pub present : Tables → NewNode → Bool
+present t (Table q ns) = true
+present t (Projection i l) = below (planCount t) (i .0) && allBelow (length (viewIn t .trees)) (numbersOf (l .now))
+present t (Filter i e) = below (planCount t) (i .0) && below (length (viewIn t .trees)) (e .0)
+present t (Sort i ks) = below (planCount t) (i .0) && allBelow (length (viewIn t .trees)) (keyNumbers (ks .now))
+present t (Limit i s c) = below (planCount t) (i .0)
+present t (Aggregate i gs us) =
+    below (planCount t) (i .0) && (allBelow (length (viewIn t .trees)) (numbersOf (gs .now)) && allBelow (length (viewIn t .trees)) (numbersOf (us .now)))
+present t (Join k l r cs) = (below (planCount t) (l .0) && below (planCount t) (r .0)) && allBelow (length (viewIn t .trees)) (numbersOf (cs .now))
+present t (SubqueryAlias i n) = below (planCount t) (i .0)
+present t (Union is) = allBelow (planCount t) (inputNumbers (is .now))
+
+-- its lists are not too long
+abbrev pub bounded : NewNode → Bool
+bounded (Table q ns) = leb (length (parts (ns .now))) 64
+bounded (Projection i l) = leb (length (l .now)) 64
+bounded (Filter i e) = true
+bounded (Sort i ks) = leb (length (ks .now)) 16
+bounded (Limit i s c) = true
+bounded (Aggregate i gs us) = leb (length (gs .now)) 16 && leb (length (us .now)) 16
+bounded (Join k l r cs) = leb (length (cs .now)) 16
+bounded (SubqueryAlias i n) = true
+bounded (Union is) = between 1 8 (length (is .now))
+
+-- its names are well formed
+abbrev pub wellNamed : NewNode → Bool
+wellNamed (Table q ns) = goodName (q .now) && every goodName (parts (ns .now))
+wellNamed (Projection i l) = true
+wellNamed (Filter i e) = true
+wellNamed (Sort i ks) = true
+wellNamed (Limit i s c) = true
+wellNamed (Aggregate i gs us) = true
+wellNamed (Join k l r cs) = true
+wellNamed (SubqueryAlias i n) = goodName (n .now)
+wellNamed (Union is) = true
+
+abbrev pub entriesFor : NewNode → ℕ
+entriesFor (Table q ns) = 0
+entriesFor (Projection i l) = length (l .now)
+entriesFor (Filter i e) = 0
+entriesFor (Sort i ks) = length (ks .now)
+entriesFor (Limit i s c) = 0
+entriesFor (Aggregate i gs us) = length (gs .now) + length (us .now)
+entriesFor (Join k l r cs) = length (cs .now)
+entriesFor (SubqueryAlias i n) = 0
+entriesFor (Union is) = length (is .now)
+
+abbrev pub bytesFor : NewNode → ℕ
+bytesFor (Table q ns) = length (q .now) + length (ns .now)
+bytesFor (Projection i l) = 0
+bytesFor (Filter i e) = 0
+bytesFor (Sort i ks) = 0
+bytesFor (Limit i s c) = 0
+bytesFor (Aggregate i gs us) = 0
+bytesFor (Join k l r cs) = 0
+bytesFor (SubqueryAlias i n) = length (n .now)
+bytesFor (Union is) = 0
+
+-- the places that it takes
+abbrev pub outlayFor : Tables → NewNode → Space
+outlayFor t n = nodeOutlay (viewIn t .functions) (treeFor t n) (entriesFor n) (bytesFor n)
+
+abbrev pub nodeQuestions : Tables → NewNode → List Asked
+nodeQuestions t n = nodeAsked (viewIn t .functions) (treeFor t n) ++ (SpaceQuestion, fits (modelOf t .used) (outlayFor t n)) ∷ []
+
+-- the new node is behind the others and its own origin
+pub record NodeAdded (t : Tables) (n : NewNode) (r : ℕ) (t′ : Tables) : Type 0 where
+  pub accepted : firstNo (nodeQuestions t n) ≡ None
+  pub number : r ≡ planCount t
+  pub functions : modelOf t′ .functions ≡ modelOf t .functions
+  pub exprs : modelOf t′ .exprs ≡ modelOf t .exprs
+  pub plans : modelOf t′ .plans ≡ modelOf t .plans ++ record { tree = treeFor t n; origin = planCount t } ∷ []
+  pub bytes : List ℕ
+  pub text : modelOf t′ .text ≡ modelOf t .text ++ bytes
+  pub used : modelOf t′ .used ≡ plus (modelOf t .used) (outlayFor t n)
+
+abbrev pub NodeMade : Tables → NewNode → Result PlanId Fault → Tables → Type 0
+NodeMade t n (Ok p) t′ = NodeAdded t n (p .0) t′
+NodeMade t n (Err f) t′ = (firstNo (nodeQuestions t n) ≡ Some (f .question)) × (f ≡ refusal (f .question)) × (modelOf t′ ≡ modelOf t)
