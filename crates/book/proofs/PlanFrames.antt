@@ -67,7 +67,7 @@ module _ (v : View) (ts′ : List Expr) (bs′ : List ℕ) (es′ : List Entry) 
       let le = leb-true (l .first + l .count) (length (v .entries)) h in
       (le-leb _ _ (omega (arith, length-append (v .entries) es′)), part-grow (v .entries) es′ (l .first) (l .count) le)
 
-  list-grow : (l : Run) → listIn v l ≡ true → (listIn (grown v ts′ bs′ es′) l ≡ true) × (runExprs (grown v ts′ bs′ es′) l ≡ runExprs v l) × (runKeys (grown v ts′ bs′ es′) l ≡ runKeys v l)
+  pub list-grow : (l : Run) → listIn v l ≡ true → (listIn (grown v ts′ bs′ es′) l ≡ true) × (runExprs (grown v ts′ bs′ es′) l ≡ runExprs v l) × (runKeys (grown v ts′ bs′ es′) l ≡ runKeys v l)
   list-grow l h =
       let p = and-parts (runIn (v .entries) l) (allBelow (length (v .trees)) (runNumbers (v .entries) l)) h in
       let r = run-grow l (p .0) in

@@ -2,3 +2,5 @@ pub mod Stored
 pub mod Holding
 pub mod Reading
 pub mod Making
+pub mod Placing
+pub mod Listing

@@ -1,6 +1,6 @@
 -- A node that is to be made; cited by src/tables/making.rt and the modules beside it.
---     treeFor t n      the tree that it would be
---     namesIn, inputsIn, present t n, bounded n, wellNamed n      what a building call has asked before: 1, 2 and 3
+--     treeOver v k ts n, treeFor t n      the tree that it would be
+--     presentIn v k n, present t n, bounded n, wellNamed n      what a building call has asked before: questions 1, 3 and 2
 --     entriesFor n, bytesFor n      the list entries and the bytes of its own that it takes
 --     nodeQuestions t n      questions 6 to 9 with their answers
 --     NodeMade t n r t′      what making it comes to
@@ -21,11 +21,11 @@ use Rattle.plan.specs.Plans.Plan.{table, projection, filter, sort, limit, aggre
 use Rattle.plan.specs.Fields.{every}
 use Rattle.plan.specs.Faults.{Asked, firstNo, refusal}
 use Rattle.plan.specs.Questions.{nodeAsked}
-use Rattle.plan.specs.Model.{Model, Node, Space, plus, fits, exprIn, exprsIn, plansIn}
+use Rattle.plan.specs.Model.{Model, Node, Space, plus, fits, exprIn, exprsIn, planIn, plansIn}
 use Rattle.plan.specs.Calls.{below, allBelow, between, parts, unionOf, nodeOutlay}
 use Rattle.plan.specs.declared.fault.Fault.{Fault}
 use Rattle.plan.specs.declared.fault.Question.the-variants.{Space as SpaceQuestion}
-use Rattle.terms.specs.Views.{numbersOf}
+use Rattle.terms.specs.Views.{View, numbersOf}
 use Rattle.terms.specs.declared.node.PlanId.{PlanId}
 use Rattle.book.specs.Holding.{viewIn, nodesOf, treesIn, treeIn, modelOf, planCount}
 use Rattle.book.specs.declared.node.NewNode.{NewNode}
@@ -42,29 +42,36 @@ keyNumbers ks = map (λ k. k .by .0) ks
 abbrev pub inputNumbers : List PlanId → List ℕ
 inputNumbers ps = map (λ p. p .0) ps
 
-abbrev pub treeFor : Tables → NewNode → Plan
-treeFor t (Table q ns) = table (planCount t) (q .now) (parts (ns .now))
-treeFor t (Projection i l) = projection (exprsIn (viewIn t .trees) (numbersOf (l .now))) (treeIn t (i .0))
-treeFor t (Filter i e) = filter (exprIn (viewIn t .trees) (e .0)) (treeIn t (i .0))
-treeFor t (Sort i ks) = sort (map (newKey (viewIn t .trees)) (ks .now)) (treeIn t (i .0))
-treeFor t (Limit i s c) = limit s c (treeIn t (i .0))
-treeFor t (Aggregate i gs us) = aggregate (exprsIn (viewIn t .trees) (numbersOf (gs .now))) (exprsIn (viewIn t .trees) (numbersOf (us .now))) (treeIn t (i .0))
-treeFor t (Join k l r cs) = join k (exprsIn (viewIn t .trees) (numbersOf (cs .now))) (treeIn t (l .0)) (treeIn t (r .0))
-treeFor t (SubqueryAlias i n) = subqueryAlias (n .now) (treeIn t (i .0))
-treeFor t (Union is) = unionOf (plansIn (treesIn t) (inputNumbers (is .now)))
+-- over these expressions and plans, as the node k
+abbrev pub treeOver : View → ℕ → List Plan → NewNode → Plan
+treeOver v k ts (Table q ns) = table k (q .now) (parts (ns .now))
+treeOver v k ts (Projection i l) = projection (exprsIn (v .trees) (numbersOf (l .now))) (planIn ts (i .0))
+treeOver v k ts (Filter i e) = filter (exprIn (v .trees) (e .0)) (planIn ts (i .0))
+treeOver v k ts (Sort i ks) = sort (map (newKey (v .trees)) (ks .now)) (planIn ts (i .0))
+treeOver v k ts (Limit i s c) = limit s c (planIn ts (i .0))
+treeOver v k ts (Aggregate i gs us) = aggregate (exprsIn (v .trees) (numbersOf (gs .now))) (exprsIn (v .trees) (numbersOf (us .now))) (planIn ts (i .0))
+treeOver v k ts (Join j l r cs) = join j (exprsIn (v .trees) (numbersOf (cs .now))) (planIn ts (l .0)) (planIn ts (r .0))
+treeOver v k ts (SubqueryAlias i n) = subqueryAlias (n .now) (planIn ts (i .0))
+treeOver v k ts (Union is) = unionOf (plansIn ts (inputNumbers (is .now)))
 
--- every node and expression that it names stands in the book
+abbrev pub treeFor : Tables → NewNode → Plan
+treeFor t n = treeOver (viewIn t) (planCount t) (treesIn t) n
+
+-- every node below k and every expression that it names is there
+abbrev pub presentIn : View → ℕ → NewNode → Bool
+presentIn v k (Table q ns) = true
+presentIn v k (Projection i l) = below k (i .0) && allBelow (length (v .trees)) (numbersOf (l .now))
+presentIn v k (Filter i e) = below k (i .0) && below (length (v .trees)) (e .0)
+presentIn v k (Sort i ks) = below k (i .0) && allBelow (length (v .trees)) (keyNumbers (ks .now))
+presentIn v k (Limit i s c) = below k (i .0)
+presentIn v k (Aggregate i gs us) = below k (i .0) && (allBelow (length (v .trees)) (numbersOf (gs .now)) && allBelow (length (v .trees)) (numbersOf (us .now)))
+presentIn v k (Join j l r cs) = (below k (l .0) && below k (r .0)) && allBelow (length (v .trees)) (numbersOf (cs .now))
+presentIn v k (SubqueryAlias i n) = below k (i .0)
+presentIn v k (Union is) = allBelow k (inputNumbers (is .now))
+
+-- the same of the tables of a book
 abbrev pub present : Tables → NewNode → Bool
-present t (Table q ns) = true
-present t (Projection i l) = below (planCount t) (i .0) && allBelow (length (viewIn t .trees)) (numbersOf (l .now))
-present t (Filter i e) = below (planCount t) (i .0) && below (length (viewIn t .trees)) (e .0)
-present t (Sort i ks) = below (planCount t) (i .0) && allBelow (length (viewIn t .trees)) (keyNumbers (ks .now))
-present t (Limit i s c) = below (planCount t) (i .0)
-present t (Aggregate i gs us) =
-    below (planCount t) (i .0) && (allBelow (length (viewIn t .trees)) (numbersOf (gs .now)) && allBelow (length (viewIn t .trees)) (numbersOf (us .now)))
-present t (Join k l r cs) = (below (planCount t) (l .0) && below (planCount t) (r .0)) && allBelow (length (viewIn t .trees)) (numbersOf (cs .now))
-present t (SubqueryAlias i n) = below (planCount t) (i .0)
-present t (Union is) = allBelow (planCount t) (inputNumbers (is .now))
+present t n = presentIn (viewIn t) (planCount t) n
 
 -- its lists are not too long
 abbrev pub bounded : NewNode → Bool

@@ -72,6 +72,17 @@ impl Terms {
         first
     }
 
+    /// Adds entries to the lists.
+    pub fn list_entries(&mut self, new: &[Entry]) -> u32
+        requires { ⌜ length (viewOf (now self) .entries) + length (now new) ≤ 2048 ⌝ }
+        ensures view { λ r. ⌜ viewOf (now (self .exit)) ≡ grown (viewOf (now (self .entry))) [] [] (now (new .entry)) ⌝ }
+        ensures first { λ r. ⌜ r ≡ length (viewOf (now (self .entry)) .entries) ⌝ }
+    {
+        let first = self.entries.len() as u32;
+        self.entries.extend(new);
+        first
+    }
+
     /// Adds a node, with the size of its tree and the length of its rendered name.
     pub(super) fn add(&mut self, node: ExprNode, size: u32, width: u32) -> ExprId
         requires room { ⌜ count (now self) < 1024 ⌝ }
