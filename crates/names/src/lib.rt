@@ -11,6 +11,8 @@ ghost use mathlib.Core.List.{[], _++_};
 ghost use mathlib.Core.Path.{_≡_};
 use table::table::Table;
 
+pub mod parts;
+
 /// Where a number read from a name stops growing: one more than the largest that a name may have.
 const CAP: u64 = 1_000_000_000;
 

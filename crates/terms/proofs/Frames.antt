@@ -2,7 +2,7 @@
 use Prim.Native.Nat.{ℕ, _+_, _<_, _≤_}
 use native.Mathlib.Omega.{arith}
 use lib.Dec.{leb}
-use lib.ListN.{length, getD, length-append}
+use lib.ListN.{length, getD, set, length-append}
 use mathlib.Core.Bool.{Bool, true, false, _&&_}
 use mathlib.Core.List.{List, [], _∷_, _++_, map}
 use mathlib.Core.Path.{_≡_, refl, sym, _∙_, ap, ap₂}
@@ -34,6 +34,13 @@ every-append p [] ys h k = k
 every-append p (x ∷ xs) ys h k =
     let q = and-parts (p x) (every p xs) h in
     and-from _ _ (q .0) (every-append p xs ys (q .1) k)
+
+pub every-set : {X : Type 0} (p : X → Bool) (xs : List X) (i : ℕ) (x : X) → every p xs ≡ true → p x ≡ true → every p (set xs i x) ≡ true
+every-set p [] i x h k = h
+every-set p (y ∷ ys) Prim.Native.Nat.zero x h k = and-from _ _ k (and-parts (p y) (every p ys) h .1)
+every-set p (y ∷ ys) (Prim.Native.Nat.suc i) x h k =
+    let q = and-parts (p y) (every p ys) h in
+    and-from _ _ (q .0) (every-set p ys i x (q .1) k)
 
 module _ (bs bs′ : List ℕ) where
   pub span-grow : (s : Span) → spanIn bs s ≡ true → (word (bs ++ bs′) s ≡ word bs s) × (spanIn (bs ++ bs′) s ≡ true)

@@ -4,3 +4,4 @@ pub mod Build
 pub mod Lexicon
 pub mod Views
 pub mod Building
+pub mod Declaring

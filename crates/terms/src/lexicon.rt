@@ -9,6 +9,7 @@ ghost use mathlib.Core.Path.{_≡_};
 use crate::node::Declaration;
 use table::table::Table;
 
+mod declaring;
 mod methods;
 
 #[derive(Drop)]

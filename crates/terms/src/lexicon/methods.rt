@@ -1,10 +1,8 @@
-//! How functions are declared, and how text is written and read.
+//! How text is written and read, and how functions are found.
 ghost use Prim.Native.Nat.{_+_, _<_, _≤_};
 ghost use Rattle.plan.specs.Functions.{functionAt};
-ghost use Rattle.plan.specs.Declaring.{declareAsked, declaredAs, withFunction};
-ghost use Rattle.plan.specs.Faults.{Settled};
 ghost use Rattle.std.specs.declared.option.Option.the-variants.{None};
-ghost use Rattle.terms.specs.Lexicon.{Declared, functionsOf, textOf};
+ghost use Rattle.terms.specs.Lexicon.{functionsOf, textOf};
 ghost use Rattle.terms.specs.Spans.{declarationIn, functionIn, spanIn, word};
 ghost use lib.ListN.{length, replicate};
 ghost use mathlib.Core.Bool.{true};
@@ -13,10 +11,6 @@ ghost use mathlib.Core.Path.{_≡_};
 use super::Lexicon;
 use crate::node::Declaration;
 use crate::node::Span;
-use plan::code::Rule;
-use plan::fault::Fault;
-use plan::fault::Question;
-use plan::fault::ask;
 use table::table::Table;
 
 impl Lexicon {
