@@ -2,3 +2,4 @@ pub mod PlanFrames
 pub mod PlanFacts
 pub mod Held
 pub mod Placings
+pub mod Answers

@@ -95,7 +95,7 @@ names-back q (n ∷ ns) = ap (λ l. n ∷ l) (names-back q ns)
 -- a Table: its qualifier and then its names were written
 pub table-placed : (v w u : View) (k : PlanId) (n : NewNode) (q ns : List ℕ) (a b : Span) → ownText n ≡ q ++ ns → ownEntries n ≡ [] → lentOwner n ≡ q → lentGiven n ≡ ns
     → ((ts : List Plan) → treeOver v (k .0) ts n ≡ table (k .0) q (parts ns))
-    → w ≡ grown v [] q [] → spanIn (w .bytes) a ≡ true → word (w .bytes) a ≡ q → u ≡ grown w [] ns [] → spanIn (u .bytes) b ≡ true → word (u .bytes) b ≡ ns 
+    → w ≡ grown v [] q [] → spanIn (w .bytes) a ≡ true → word (w .bytes) a ≡ q → u ≡ grown w [] ns [] → spanIn (u .bytes) b ≡ true → word (u .bytes) b ≡ ns
     → PlacedAs v (k .0) n (record { node = Table k a; owner = a; given = b .start }) u
 table-placed v w u k n q ns a b text entries owner given tree e ai aw f bi bw =
     let bl : b .len ≡ length ns = sym (length-part (u .bytes) (b .start) (b .len) (leb-true _ _ bi)) ∙ ap length bw in

@@ -11,6 +11,8 @@ use Rattle.plan.specs.Plans.{Plan, fieldsOf}
 use Rattle.plan.specs.Model.{Model, Node, space, planIn}
 use Rattle.terms.specs.Views.{View, viewOf}
 use Rattle.book.specs.Stored.{planNodes, planTrees}
+use Rattle.terms.specs.declared.node.StoredField.{StoredField}
+use Rattle.book.specs.declared.node.PlanRecord.{PlanRecord}
 use Rattle.book.specs.declared.tables.Tables.{Tables}
 
 abbrev pub viewIn : Tables → View
@@ -22,14 +24,18 @@ nodesOf t = planNodes (viewIn t) (contents (t .fields)) (contents (t .plans))
 abbrev pub treesIn : Tables → List Plan
 treesIn t = planTrees (viewIn t) (contents (t .fields)) (contents (t .plans))
 
-abbrev pub modelOf : Tables → Model
-modelOf t = record {
-  functions = viewIn t .functions;
-  exprs = viewIn t .trees;
-  plans = nodesOf t;
-  text = viewIn t .bytes;
-  used = space (length (viewIn t .trees)) (length (nodesOf t)) (length (viewIn t .entries)) (length (contents (t .fields))) (length (viewIn t .bytes));
+-- the model of expressions, fields and records
+abbrev pub modelFrom : View → List StoredField → List PlanRecord → Model
+modelFrom v fields rs = record {
+  functions = v .functions;
+  exprs = v .trees;
+  plans = planNodes v fields rs;
+  text = v .bytes;
+  used = space (length (v .trees)) (length (planNodes v fields rs)) (length (v .entries)) (length fields) (length (v .bytes));
 }
+
+abbrev pub modelOf : Tables → Model
+modelOf t = modelFrom (viewIn t) (contents (t .fields)) (contents (t .plans))
 
 abbrev pub treeIn : Tables → ℕ → Plan
 treeIn t p = planIn (treesIn t) p

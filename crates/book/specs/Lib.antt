@@ -4,3 +4,4 @@ pub mod Reading
 pub mod Making
 pub mod Placing
 pub mod Listing
+pub mod Answering

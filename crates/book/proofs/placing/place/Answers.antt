@@ -41,7 +41,7 @@ returns-in-Table c =
     let ns = c .in-Table .names in
     for-node v _ (c .args .number .0) _ _ _ (c .in-Table .is)
     (table-placed v (viewOf (c .write-owner .last .self)) (viewOf (c .write-given .last .self)) (c .args .number) (Table q ns) (q .now) (ns .now) (c .write-owner .result) (c .write-given .result) refl refl refl refl (λ ts. refl)
-      (c .write-owner .ensures .view) (c .write-owner .ensures .inside) (c .write-owner .ensures .word) (c .write-given .ensures .view) (c .write-given .ensures .inside) (c .write-given .ensures .word))
+    (c .write-owner .ensures .view) (c .write-owner .ensures .inside) (c .write-owner .ensures .word) (c .write-given .ensures .view) (c .write-given .ensures .inside) (c .write-given .ensures .word))
 
 pub returns-in-Projection : need.returns-in-Projection
 returns-in-Projection c =
@@ -79,7 +79,7 @@ returns-in-Aggregate c =
     let x = first-kept v w u (gs .now) (us .now) (c .list-expressions-groups .result) (c .list-expressions-totals .result) (c .list-expressions-groups .ensures) (c .list-expressions-totals .ensures) (q .0) (q .1) in
     for-node v _ k _ _ _ (c .in-Aggregate .is)
     (nameless-placed v u k (Aggregate i gs us) (AggregateNode i (c .list-expressions-groups .result) (c .list-expressions-totals .result)) _ (c .nameless-in-Aggregate .ensures) refl refl
-      (twice-listed v w u _ _ _ _ (c .list-expressions-groups .ensures) (c .list-expressions-totals .ensures)) (and-from _ _ (p .0) (and-from _ _ (x .0) (x .2))) (λ fs ts. ap₂ (λ a b. aggregate a b (planIn ts (i .0))) (x .1) (x .3)))
+    (twice-listed v w u _ _ _ _ (c .list-expressions-groups .ensures) (c .list-expressions-totals .ensures)) (and-from _ _ (p .0) (and-from _ _ (x .0) (x .2))) (λ fs ts. ap₂ (λ a b. aggregate a b (planIn ts (i .0))) (x .1) (x .3)))
 
 pub returns-in-Join : need.returns-in-Join
 returns-in-Join c =
@@ -93,7 +93,7 @@ returns-in-Join c =
     let x = exprs-listed v (viewOf (c .list-expressions-on .last .terms)) (c .list-expressions-on .result) (cs .now) (c .list-expressions-on .ensures) (p .1) in
     for-node v _ k _ _ _ (c .in-Join .is)
     (nameless-placed v _ k (Join (c .in-Join .kind) l r cs) (JoinNode (c .in-Join .kind) l r (c .list-expressions-on .result)) _ (c .nameless-in-Join .ensures) refl refl (c .list-expressions-on .ensures .view) (and-from _ _ (q .0) (and-from _ _ (q .1) (x .0)))
-      (λ fs ts. ap (λ es. join (c .in-Join .kind) es (planIn ts (l .0)) (planIn ts (r .0))) (x .1)))
+    (λ fs ts. ap (λ es. join (c .in-Join .kind) es (planIn ts (l .0)) (planIn ts (r .0))) (x .1)))
 
 pub returns-in-Union : need.returns-in-Union
 returns-in-Union c =
@@ -104,4 +104,4 @@ returns-in-Union c =
     let x = inputs-listed v (viewOf (c .list-inputs-inputs .last .terms)) (c .list-inputs-inputs .result) (is .now) (c .list-inputs-inputs .ensures) in
     for-node v _ k _ _ _ (c .in-Union .is)
     (nameless-placed v _ k (Union is) (UnionNode (c .list-inputs-inputs .result)) _ (c .nameless-in-Union .ensures) refl refl (c .list-inputs-inputs .ensures .view) (and-from _ _ (c .list-inputs-inputs .ensures .run) (ap (allBelow k) x ∙ p))
-      (λ fs ts. ap (λ ns. unionOf (plansIn ts ns)) x))
+    (λ fs ts. ap (λ ns. unionOf (plansIn ts ns)) x))
