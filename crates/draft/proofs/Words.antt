@@ -2,11 +2,12 @@
 use Prim.Native.Nat.{ℕ, _+_, _<_, _≤_}
 use native.Mathlib.Omega.{arith}
 use lib.Dec.{leb, ltb}
-use lib.ListN.{length}
+use lib.ListN.{length, drop, length-take, length-drop}
 use mathlib.Core.Bool.{Bool, true, _&&_}
 use mathlib.Core.List.{List, [], _∷_, _++_, map}
 use mathlib.Core.Path.{_≡_, refl, sym, _∙_, ap, ap₂, subst}
 use Rattle.std.proofs.shelf.Tests.{and-from, lt-ltb}
+use Rattle.table.proofs.Held.{held}
 use Rattle.plan.specs.Terms.{Field, Expr, Exprs, Literal}
 use Rattle.plan.specs.Terms.Expr.{literal, reference, alias, call}
 use Rattle.plan.specs.Functions.{Functions}
@@ -28,6 +29,7 @@ use Rattle.draft.specs.Drafts.{wordAt, ownerAt, ownerIn, draftField, draftIn, 
 use Rattle.draft.specs.declared.word.DraftQualifier.{DraftQualifier}
 use Rattle.draft.specs.declared.word.DraftQualifier.the-variants.{Bare}
 use Rattle.draft.specs.declared.word.Word.the-variants.{Stored, Rendered}
+use Rattle.draft.specs.declared.word.DraftField.{DraftField}
 
 -- no rendered name is longer than a buffer
 pub short : (t : Terms) (i : ℕ) → i < count t → widthOf (viewOf t .functions) (treeOf t i) ≤ 130816
@@ -35,6 +37,14 @@ short t i lt =
     let v = viewOf t in
     let ok = every-at (acceptable (v .functions)) (v .trees) i noExpr lt (t .accepted) in
     omega (arith, width-le (v .functions) (t .lexicon .good) (treeOf t i) ok, small (v .functions) (treeOf t i) ok)
+
+-- a part of a text is no longer than the text
+pub word-short : (bs : List ℕ) (s : Span) → length (word bs s) ≤ length bs
+word-short bs s = omega (arith, length-take (s .len) (drop (s .start) bs), length-drop (s .start) bs)
+
+-- a word of the book's text has room in a buffer
+pub stored-short : (t : Terms) (s : Span) → length (word (viewOf t .bytes) s) ≤ 16384
+stored-short t s = omega (arith, word-short (viewOf t .bytes) s, held (t .lexicon .text))
 
 pub owner-kept : (v : View) (o : List ℕ) (q : Qualifier) → (ownerAt v o (keptQualifier q) ≡ qualifierAt (v .bytes) q) × (ownerIn v (keptQualifier q) ≡ qualifierIn (v .bytes) q)
 owner-kept v o Unqualified = (refl, refl)
@@ -59,3 +69,7 @@ of-literal fs e l h = subst (λ x. (fieldOf fs x ≡ unqualifiedField (rendered 
 
 pub of-call : (fs : Functions) (e : Expr) (n : ℕ) (es : Exprs) → e ≡ call n es → (fieldOf fs e ≡ unqualifiedField (rendered fs e)) × (renderedBytes fs e ≡ widthOf fs e)
 of-call fs e n es h = subst (λ x. (fieldOf fs x ≡ unqualifiedField (rendered fs x)) × (renderedBytes fs x ≡ widthOf fs x)) (sym h) (refl, refl)
+
+-- what stands past the end of a draft
+abbrev pub blank : DraftField
+blank = drafted Bare (Stored (record { start = 0; len = 0 }))
