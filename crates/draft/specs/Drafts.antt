@@ -4,7 +4,7 @@
 --     asStored, asOwned, asBare, asColumn      a stored field as it is, under the owner, with no qualifier; a lent name under the owner
 --     fieldBytes v d, draftBytes v ds      how many bytes a rendered name takes; all of them
 --     FieldFor v e d, FieldsFor v es ds      d is a draft of the field of the expression e; the same of lists
---     StoredAs, StoredAll      what storing one field, or a list of them, leaves
+--     WordAs, StoredAs, StoredAll      what storing a word, a field, or a list of fields leaves
 use Prim.Native.Nat.{ℕ, _+_}
 use lib.Dec.{leb, ltb}
 use lib.ListN.{length}
@@ -105,6 +105,20 @@ pub record FieldsFor (v : View) (es : List Expr) (before after : List DraftField
   pub fields : (o g : List ℕ) → map (draftField v o g) new ≡ map (fieldOf (v .functions)) es
   pub inside : (o g : List ℕ) → every (draftIn v o g) new ≡ true
   pub bytes : draftBytes v new ≡ sumBy (renderedBytes (v .functions)) es
+
+-- a qualifier as it is stored, where the lent owner's name stands in the text as o
+abbrev pub storedQualifier : Span → DraftQualifier → StoredQualifier
+storedQualifier o Bare = Unqualified
+storedQualifier o (Of s) = Qualified s
+storedQualifier o OfOwner = Qualified o
+
+-- the word w stands in the text as s, a rendered name behind the rest; o and g stand in the text
+pub record WordAs (v : View) (o g : Span) (w : Word) (v′ : View) (s : Span) : Type 0 where
+  pub bytes : List ℕ
+  pub view : v′ ≡ grown v [] bytes []
+  pub used : length bytes ≡ wordBytes v w
+  pub is : word (v′ .bytes) s ≡ wordAt v (word (v .bytes) o) (word (v .bytes) g) w
+  pub inside : spanIn (v′ .bytes) s ≡ true
 
 -- the field d was stored as f, its rendered name behind the text; o and g stand in the text
 pub record StoredAs (v : View) (o g : Span) (d : DraftField) (v′ : View) (f : StoredField) : Type 0 where

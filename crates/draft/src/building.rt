@@ -38,10 +38,10 @@ pub fn push_owned(out: &mut Table<DraftField, 128>, fields: &[StoredField])
     requires { ⌜ length (contents (now out)) + length (now fields) ≤ 128 ⌝ }
     ensures { λ _. ⌜ contents (now (out .exit)) ≡ contents (now (out .entry)) ++ map asOwned (now (fields .entry)) ⌝ }
 {
-    for field in fields {
+    for column in fields {
         out.push(DraftField {
             qualifier: DraftQualifier::OfOwner,
-            name: Word::Stored(field.name),
+            name: Word::Stored(column.name),
         });
     }
 }

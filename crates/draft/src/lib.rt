@@ -2,4 +2,5 @@
 pub mod building;
 pub mod lawful;
 pub mod reading;
+pub mod storing;
 pub mod word;

@@ -33,11 +33,12 @@ pub fn field_of(terms: &Terms, e: ExprId) -> DraftField
     requires { ⌜ e .0 < count (now terms) ⌝ }
     ensures { λ r. ⌜ FieldFor (viewOf (now (terms .entry))) (treeOf (now (terms .entry)) (e .0)) r ⌝ }
 {
+    let rendered = DraftField {
+        qualifier: DraftQualifier::Bare,
+        name: Word::Rendered(e),
+    };
     match terms.node(e) {
-        ExprNode::Constant(_) => DraftField {
-            qualifier: DraftQualifier::Bare,
-            name: Word::Rendered(e),
-        },
+        ExprNode::Constant(_) => rendered,
         ExprNode::Reference { qualifier, name } => DraftField {
             qualifier: kept_qualifier(qualifier),
             name: Word::Stored(name),
@@ -50,10 +51,7 @@ pub fn field_of(terms: &Terms, e: ExprId) -> DraftField
             qualifier: kept_qualifier(qualifier),
             name: Word::Stored(name),
         },
-        ExprNode::Call { .. } => DraftField {
-            qualifier: DraftQualifier::Bare,
-            name: Word::Rendered(e),
-        },
+        ExprNode::Call { .. } => rendered,
     }
 }
 

@@ -7,10 +7,10 @@ use Rattle.draft.proofs.building.push_owned.Needs as need
 
 pub push-requires : need.push-requires
 push-requires c κs =
-    (lit< tt, omega (arith, c .pre, copied-length asOwned (contents (c .args .out .now)) (c .args .fields .now) (c .loop-field .field-index) _ (omega arith) (c .loop-field .inv)))
+    (lit< tt, omega (arith, c .pre, copied-length asOwned (contents (c .args .out .now)) (c .args .fields .now) (c .loop-column .column-index) _ (omega arith) (c .loop-column .inv)))
 
-pub loop-field-again : need.loop-field-again
-loop-field-again c = copied-more asOwned (contents (c .args .out .now)) (c .args .fields .now) (c .loop-field .field-index) _ _ _ (omega arith) (c .loop-field .inv) (c .push .ensures)
+pub loop-column-again : need.loop-column-again
+loop-column-again c = copied-more asOwned (contents (c .args .out .now)) (c .args .fields .now) (c .loop-column .column-index) _ _ _ (omega arith) (c .loop-column .inv) (c .push .ensures)
 
 pub returns : need.returns
-returns c = copied-all asOwned (contents (c .args .out .now)) (c .args .fields .now) (c .loop-field .field-index) _ (omega arith) (c .loop-field .inv)
+returns c = copied-all asOwned (contents (c .args .out .now)) (c .args .fields .now) (c .loop-column .column-index) _ (omega arith) (c .loop-column .inv)

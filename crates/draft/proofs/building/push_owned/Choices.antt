@@ -5,5 +5,5 @@ use Rattle.table.specs.Contents.{contents}
 use Rattle.draft.specs.Drafts.{asOwned}
 use Rattle.draft.proofs.building.push_owned.Given as given
 
-abbrev pub Inv-loop-field : given.InvT-loop-field
-Inv-loop-field l = contents (l .out) ≡ contents (l .entry .out) ++ map asOwned (take (l .field-index) (l .fields))
+abbrev pub Inv-loop-column : given.InvT-loop-column
+Inv-loop-column l = contents (l .out) ≡ contents (l .entry .out) ++ map asOwned (take (l .column-index) (l .fields))
