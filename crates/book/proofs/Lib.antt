@@ -3,3 +3,4 @@ pub mod PlanFacts
 pub mod Held
 pub mod Placings
 pub mod Answers
+pub mod Draftings

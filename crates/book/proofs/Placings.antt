@@ -84,8 +84,8 @@ nameless-placed v w k n p x e o g s i t =
       tree = λ fs ts h. t fs ts;
       ownerInside = le-leb 0 (length (w .bytes)) (omega arith);
       owner = sym o;
-      givenInside = omega (arith, ap length g);
-      given = ap (λ l. part (w .bytes) 0 (length l)) g ∙ sym g;
+      givenInside = le-leb 0 (length (w .bytes)) (omega arith);
+      given = sym g;
     })
 
 names-back : (q : Name) (ns : List Name) → map (λ f. f .name) (map (columnOf q) ns) ≡ ns
@@ -96,9 +96,8 @@ names-back q (n ∷ ns) = ap (λ l. n ∷ l) (names-back q ns)
 pub table-placed : (v w u : View) (k : PlanId) (n : NewNode) (q ns : List ℕ) (a b : Span) → ownText n ≡ q ++ ns → ownEntries n ≡ [] → lentOwner n ≡ q → lentGiven n ≡ ns
     → ((ts : List Plan) → treeOver v (k .0) ts n ≡ table (k .0) q (parts ns))
     → w ≡ grown v [] q [] → spanIn (w .bytes) a ≡ true → word (w .bytes) a ≡ q → u ≡ grown w [] ns [] → spanIn (u .bytes) b ≡ true → word (u .bytes) b ≡ ns
-    → PlacedAs v (k .0) n (record { node = Table k a; owner = a; given = b .start }) u
+    → PlacedAs v (k .0) n (record { node = Table k a; owner = a; given = b }) u
 table-placed v w u k n q ns a b text entries owner given tree e ai aw f bi bw =
-    let bl : b .len ≡ length ns = sym (length-part (u .bytes) (b .start) (b .len) (leb-true _ _ bi)) ∙ ap length bw in
     let g = span-grow (w .bytes) ns a ai in
     let x : u .bytes ≡ w .bytes ++ ns = ap (λ y. y .bytes) f in
     let ua : spanIn (u .bytes) a ≡ true = ap (λ l. spanIn l a) x ∙ g .1 in
@@ -109,8 +108,8 @@ table-placed v w u k n q ns a b text entries owner given tree e ai aw f bi bw =
       tree = λ fs ts h. ap₂ (λ c l. table (k .0) c l) uw (ap (map (λ y. y .name)) (h ∙ ap (fieldsOf (v .functions)) (tree ts)) ∙ names-back q (parts ns)) ∙ sym (tree ts);
       ownerInside = ua;
       owner = uw ∙ sym owner;
-      givenInside = omega (arith, leb-true _ _ bi, bl, ap length given);
-      given = ap (λ l. part (u .bytes) (b .start) l) (ap length given ∙ sym bl) ∙ bw ∙ sym given;
+      givenInside = bi;
+      given = bw ∙ sym given;
     }
 
 -- two lists, one after the other

@@ -5,3 +5,4 @@ pub mod Making
 pub mod Placing
 pub mod Listing
 pub mod Answering
+pub mod Drafting

@@ -2,12 +2,10 @@
 --     ownText n, ownEntries n      the bytes and the list entries that it adds
 --     lentOwner n, lentGiven n      the name that its fields take as qualifier; the names of its fields
 --     PlacedAs v k n r v′      the record's node over the tables afterwards
-use Prim.Native.Nat.{ℕ, _+_, _≤_}
-use lib.ListN.{length}
+use Prim.Native.Nat.{ℕ}
 use mathlib.Core.Bool.{true}
 use mathlib.Core.List.{List, [], _++_, map}
 use mathlib.Core.Path.{_≡_}
-use Rattle.table.specs.Contents.{part}
 use Rattle.plan.specs.Terms.{Field}
 use Rattle.plan.specs.Plans.{Plan, fieldsOf}
 use Rattle.terms.specs.Spans.{word, spanIn}
@@ -71,7 +69,7 @@ lentGiven (Union is) = []
 
 -- a node that brings no names
 abbrev pub namelessly : PlanNode → Placed
-namelessly n = record { node = n; owner = record { start = 0; len = 0 }; given = 0 }
+namelessly n = record { node = n; owner = record { start = 0; len = 0 }; given = record { start = 0; len = 0 } }
 
 pub record PlacedAs (v : View) (k : ℕ) (n : NewNode) (r : Placed) (v′ : View) : Type 0 where
   pub view : v′ ≡ grown v [] (ownText n) (ownEntries n)
@@ -79,5 +77,5 @@ pub record PlacedAs (v : View) (k : ℕ) (n : NewNode) (r : Placed) (v′ : View
   pub tree : (fs : List Field) (ts : List Plan) → fs ≡ fieldsOf (v .functions) (treeOver v k ts n) → buildPlanNode v′ fs ts (r .node) ≡ treeOver v k ts n
   pub ownerInside : spanIn (v′ .bytes) (r .owner) ≡ true
   pub owner : word (v′ .bytes) (r .owner) ≡ lentOwner n
-  pub givenInside : r .given + length (lentGiven n) ≤ length (v′ .bytes)
-  pub given : part (v′ .bytes) (r .given) (length (lentGiven n)) ≡ lentGiven n
+  pub givenInside : spanIn (v′ .bytes) (r .given) ≡ true
+  pub given : word (v′ .bytes) (r .given) ≡ lentGiven n

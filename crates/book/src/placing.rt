@@ -27,7 +27,7 @@ use terms::terms::Terms;
 pub struct Placed {
     pub node: PlanNode,
     pub owner: Span,
-    pub given: u32,
+    pub given: Span,
 }
 
 fn push_expressions(out: &mut Table<Entry, 64>, ids: &[ExprId])
@@ -104,7 +104,7 @@ fn nameless(node: PlanNode) -> Placed
     Placed {
         node,
         owner: Span { start: 0, len: 0 },
-        given: 0,
+        given: Span { start: 0, len: 0 },
     }
 }
 
@@ -126,7 +126,7 @@ pub fn place(terms: &mut Terms, node: NewNode<'_>, number: PlanId) -> Placed
                     qualifier: owner,
                 },
                 owner,
-                given: given.start,
+                given,
             }
         }
         NewNode::Projection { input, list } => {
@@ -171,7 +171,7 @@ pub fn place(terms: &mut Terms, node: NewNode<'_>, number: PlanId) -> Placed
             Placed {
                 node: PlanNode::SubqueryAlias { input, name: owner },
                 owner,
-                given: 0,
+                given: Span { start: 0, len: 0 },
             }
         }
         NewNode::Union { inputs } => {
