@@ -1,3 +1,4 @@
 pub mod PlanFrames
 pub mod PlanFacts
 pub mod Held
+pub mod NodeFacts

@@ -13,6 +13,7 @@ use table::table::Table;
 use terms::node::StoredField;
 use terms::terms::Terms;
 
+mod asking;
 mod reading;
 
 #[derive(Drop)]
