@@ -1,21 +1,23 @@
 -- What a node that is to be made names, and what its tree is asked, variant by variant.
 use Prim.Native.Nat.{ℕ, _+_, _<_, _≤_}
 use native.Mathlib.Omega.{arith}
-use lib.Dec.{leb, ltb}
-use lib.ListN.{length, getD, drop}
-use mathlib.Core.Bool.{Bool, true, false, _&&_}
+use lib.Dec.{leb}
+use lib.ListN.{length, getD}
+use mathlib.Core.Bool.{true, _&&_}
 use mathlib.Core.List.{List, [], _∷_, _++_, map}
-use mathlib.Core.Path.{_≡_, refl, sym, _∙_, ap, subst}
+use mathlib.Core.Logic.{_⊎_, inl, inr}
+use mathlib.Core.Path.{_≡_, refl, _∙_, ap, subst}
 use denote.Ref.{RefT}
 use Rattle.std.proofs.shelf.Lists.{getD-map, length-map}
 use Rattle.std.proofs.shelf.Tests.{and-parts, ltb-true, leb-true}
 use Rattle.plan.specs.Terms.{Expr}
-use Rattle.plan.specs.Plans.{Plan, Key, planSizeOf, planSizesOf, furtherInputs}
-use Rattle.plan.specs.Fields.{every}
-use Rattle.plan.specs.Questions.{expressionsOf, shownExpressions}
-use Rattle.plan.specs.Model.{exprsIn}
-use Rattle.plan.specs.Calls.{below, allBelow, between, parts, unionOf}
+use Rattle.plan.specs.Functions.{Functions}
+use Rattle.plan.specs.Plans.{Plan, fieldsOf, shown, withoutQualifier}
+use Rattle.plan.specs.Questions.{expressionsOf}
+use Rattle.plan.specs.Model.{exprIn, exprsIn, planIn, plansIn}
+use Rattle.plan.specs.Calls.{below, allBelow, parts, unionOf}
 use Rattle.plan.specs.declared.code.JoinKind.{JoinKind}
+use Rattle.plan.specs.declared.code.JoinKind.the-variants.{Inner, Left, Right, Full}
 use Rattle.terms.specs.Views.{numbersOf}
 use Rattle.terms.specs.declared.node.ExprId.{ExprId}
 use Rattle.terms.specs.declared.node.PlanId.{PlanId}
@@ -23,7 +25,7 @@ use Rattle.terms.proofs.Frames.{every-at}
 use Rattle.book.specs.Holding.{viewIn, planCount}
 use Rattle.book.specs.Making.{newKey, keyNumbers, inputNumbers, present, bounded}
 use Rattle.book.specs.declared.node.NewNode.{NewNode}
-use Rattle.book.specs.declared.node.NewNode.the-variants.{Table, Projection, Filter, Sort, Limit, Aggregate, Join, SubqueryAlias, Union}
+use Rattle.book.specs.declared.node.NewNode.the-variants.{Table, Projection, Filter, Sort, Aggregate, Join}
 use Rattle.book.specs.declared.node.SortKey.{SortKey}
 use Rattle.book.specs.declared.tables.Tables.{Tables}
 
@@ -44,9 +46,6 @@ module _ (t : Tables) (n : NewNode) (h : present t n ≡ true) where
       let p = and-parts (below (planCount t) (i .0)) _ (subst (λ m. present t m ≡ true) e h) in
       (ltb-true _ _ (p .0), p .1)
 
-  pub limit-in : (i : PlanId) (s c : ℕ) → n ≡ Limit i s c → i .0 < planCount t
-  limit-in i s c e = ltb-true _ _ (subst (λ m. present t m ≡ true) e h)
-
   pub aggregate-in : (i : PlanId) (gs us : RefT (List ExprId)) → n ≡ Aggregate i gs us
       → (i .0 < planCount t) × (allBelow (length (viewIn t .trees)) (numbersOf (gs .now)) ≡ true) × (allBelow (length (viewIn t .trees)) (numbersOf (us .now)) ≡ true)
   aggregate-in i gs us e =
@@ -61,12 +60,6 @@ module _ (t : Tables) (n : NewNode) (h : present t n ≡ true) where
       let q = and-parts (below (planCount t) (l .0)) _ (p .0) in
       (ltb-true _ _ (q .0), ltb-true _ _ (q .1), p .1)
 
-  pub alias-in : (i : PlanId) (x : RefT (List ℕ)) → n ≡ SubqueryAlias i x → i .0 < planCount t
-  alias-in i x e = ltb-true _ _ (subst (λ m. present t m ≡ true) e h)
-
-  pub union-in : (is : RefT (List PlanId)) → n ≡ Union is → allBelow (planCount t) (inputNumbers (is .now)) ≡ true
-  union-in is e = subst (λ m. present t m ≡ true) e h
-
 -- its lists are not too long
 module _ (n : NewNode) (h : bounded n ≡ true) where
   pub table-few : (q ns : RefT (List ℕ)) → n ≡ Table q ns → length (parts (ns .now)) ≤ 64
@@ -78,11 +71,6 @@ module _ (n : NewNode) (h : bounded n ≡ true) where
   pub aggregate-few : (i : PlanId) (gs us : RefT (List ExprId)) → n ≡ Aggregate i gs us → (length (gs .now) ≤ 16) × (length (us .now) ≤ 16)
   aggregate-few i gs us e =
       let p = and-parts (leb (length (gs .now)) 16) _ (subst (λ m. bounded m ≡ true) e h) in
-      (leb-true _ _ (p .0), leb-true _ _ (p .1))
-
-  pub union-few : (is : RefT (List PlanId)) → n ≡ Union is → (1 ≤ length (is .now)) × (length (is .now) ≤ 8)
-  union-few is e =
-      let p = and-parts (leb 1 (length (is .now))) _ (subst (λ m. bounded m ≡ true) e h) in
       (leb-true _ _ (p .0), leb-true _ _ (p .1))
 
 -- an input of a list whose numbers all stand in the book
@@ -106,14 +94,17 @@ pub union-expressions : (ps : List Plan) → expressionsOf (unionOf ps) ≡ []
 union-expressions [] = refl
 union-expressions (p ∷ ps) = refl
 
-pub union-shown : (ps : List Plan) → shownExpressions (unionOf ps) ≡ []
-union-shown [] = refl
-union-shown (p ∷ ps) = refl
+pub exprs-length : (ts : List Expr) (ids : List ExprId) → length (exprsIn ts (numbersOf ids)) ≡ length ids
+exprs-length ts ids = length-map (numbersOf ids) (exprIn ts) ∙ length-map ids (λ e. e .0)
 
-pub union-size : (ps : List Plan) → 1 ≤ length ps → planSizeOf (unionOf ps) ≡ planSizesOf (furtherInputs ps) + 1
-union-size [] h = absurd (omega arith)
-union-size (p ∷ ps) h = refl
+-- a Union is as wide as its first input
+pub union-width : (fs : Functions) (ts : List Plan) (ps : List PlanId) (d : PlanId) → 1 ≤ length ps → length (fieldsOf fs (unionOf (plansIn ts (inputNumbers ps)))) ≡ length (fieldsOf fs (planIn ts (getD ps 0 d .0)))
+union-width fs ts [] d h = absurd (omega arith)
+union-width fs ts (p ∷ ps) d h = length-map (fieldsOf fs (planIn ts (p .0))) withoutQualifier
 
-pub and-true : (b : Bool) → (b && true) ≡ b
-and-true true = refl
-and-true false = refl
+-- a Join that shows both sides
+pub shows-both : {A : Type 0} (k : JoinKind) (ls rs : List A) → (k ≡ Inner) ⊎ ((k ≡ Left) ⊎ ((k ≡ Right) ⊎ (k ≡ Full))) → shown k ls rs ≡ ls ++ rs
+shows-both k ls rs (inl e) = ap (λ j. shown j ls rs) e
+shows-both k ls rs (inr (inl e)) = ap (λ j. shown j ls rs) e
+shows-both k ls rs (inr (inr (inl e))) = ap (λ j. shown j ls rs) e
+shows-both k ls rs (inr (inr (inr e))) = ap (λ j. shown j ls rs) e

@@ -14,6 +14,7 @@ use terms::node::StoredField;
 use terms::terms::Terms;
 
 mod asking;
+mod measuring;
 mod reading;
 
 #[derive(Drop)]

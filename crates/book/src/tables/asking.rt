@@ -1,13 +1,14 @@
 //! What a node that is to be made is asked.
-ghost use Prim.Native.Nat.{_<_};
-ghost use Rattle.book.specs.Holding.{fieldsAt, planCount, viewIn};
-ghost use Rattle.book.specs.Making.{bounded, keyNumbers, present, treeFor};
+ghost use Prim.Native.Nat.{_+_, _<_};
+ghost use Rattle.book.specs.Holding.{fieldsAt, modelOf, planCount, viewIn};
+ghost use Rattle.book.specs.Making.{bounded, bytesFor, entriesFor, keyNumbers, outlayFor, present, treeFor};
 ghost use Rattle.plan.specs.Calls.{allBelow};
 ghost use Rattle.plan.specs.Fields.{every, resolved};
-ghost use Rattle.plan.specs.Model.{exprIn, exprsIn};
-ghost use Rattle.plan.specs.Questions.{expressionsOf, inputFields};
+ghost use Rattle.plan.specs.Model.{exprIn, exprsIn, fits};
+ghost use Rattle.plan.specs.Questions.{expressionsOf, inputFields, limited, shortName, shownExpressions};
 ghost use Rattle.terms.specs.Spans.{storedField, storedIn};
 ghost use Rattle.terms.specs.Views.{numbersOf};
+ghost use lib.Dec.{leb};
 ghost use lib.ListN.{length};
 ghost use mathlib.Core.Bool.{true};
 ghost use mathlib.Core.List.{_++_, map};
@@ -15,9 +16,45 @@ ghost use mathlib.Core.Path.{_≡_};
 use super::Tables;
 use crate::node::NewNode;
 use crate::node::SortKey;
+use table::table::Table;
 use terms::node::ExprId;
 use terms::node::PlanId;
 use terms::node::StoredField;
+
+/// How many list entries a node takes.
+fn list_len(node: NewNode<'_>) -> usize
+    requires { ⌜ bounded node ≡ true ⌝ }
+    ensures { λ r. ⌜ r ≡ entriesFor (node .entry) ⌝ }
+{
+    match node {
+        NewNode::Table { .. } => 0,
+        NewNode::Projection { list, .. } => list.len(),
+        NewNode::Filter { .. } => 0,
+        NewNode::Sort { keys, .. } => keys.len(),
+        NewNode::Limit { .. } => 0,
+        NewNode::Aggregate { groups, totals, .. } => groups.len() + totals.len(),
+        NewNode::Join { on, .. } => on.len(),
+        NewNode::SubqueryAlias { .. } => 0,
+        NewNode::Union { inputs } => inputs.len(),
+    }
+}
+
+/// How many bytes of its own a node takes.
+fn own_len(node: NewNode<'_>) -> usize
+    ensures { λ r. ⌜ r ≡ bytesFor (node .entry) ⌝ }
+{
+    match node {
+        NewNode::Table { qualifier, names } => qualifier.len() + names.len(),
+        NewNode::Projection { .. } => 0,
+        NewNode::Filter { .. } => 0,
+        NewNode::Sort { .. } => 0,
+        NewNode::Limit { .. } => 0,
+        NewNode::Aggregate { .. } => 0,
+        NewNode::Join { .. } => 0,
+        NewNode::SubqueryAlias { name, .. } => name.len(),
+        NewNode::Union { .. } => 0,
+    }
+}
 
 impl Tables {
     /// Whether every reference of some expressions resolves among the fields of one or two inputs.
@@ -115,5 +152,99 @@ impl Tables {
             NewNode::SubqueryAlias { .. } => true,
             NewNode::Union { .. } => true,
         }
+    }
+}
+
+impl Tables {
+    /// Whether the rendered names of some expressions are short.
+    fn all_short(&self, ids: &[ExprId]) -> bool
+        requires { ⌜ allBelow (length (viewIn (now self) .trees)) (numbersOf (now ids)) ≡ true ⌝ }
+        ensures { λ r. ⌜ r ≡ every (shortName (viewIn (now (self .entry)) .functions)) (exprsIn (viewIn (now (self .entry)) .trees) (numbersOf (now (ids .entry)))) ⌝ }
+    {
+        for id in ids {
+            if self.name_bytes(*id) > 255 {
+                return false;
+            }
+        }
+        true
+    }
+
+    /// The same of two lists, one after the other.
+    fn both_short(&self, first: &[ExprId], second: &[ExprId]) -> bool
+        requires first { ⌜ allBelow (length (viewIn (now self) .trees)) (numbersOf (now first)) ≡ true ⌝ }
+        requires second { ⌜ allBelow (length (viewIn (now self) .trees)) (numbersOf (now second)) ≡ true ⌝ }
+        ensures { λ r. ⌜ r ≡ every (shortName (viewIn (now (self .entry)) .functions)) (exprsIn (viewIn (now (self .entry)) .trees) (numbersOf (now (first .entry))) ++ exprsIn (viewIn (now (self .entry)) .trees) (numbersOf (now (second .entry)))) ⌝ }
+    {
+        if !self.all_short(first) {
+            return false;
+        }
+        self.all_short(second)
+    }
+
+    /// Whether the rendered names that a node's fields take are short.
+    pub fn has_short_names(&self, node: NewNode<'_>) -> bool
+        requires { ⌜ present (now self) node ≡ true ⌝ }
+        ensures { λ r. ⌜ r ≡ every (shortName (viewIn (now (self .entry)) .functions)) (shownExpressions (treeFor (now (self .entry)) (node .entry))) ⌝ }
+    {
+        match node {
+            NewNode::Table { .. } => true,
+            NewNode::Projection { list, .. } => self.all_short(list),
+            NewNode::Filter { .. } => true,
+            NewNode::Sort { .. } => true,
+            NewNode::Limit { .. } => true,
+            NewNode::Aggregate { groups, totals, .. } => self.both_short(groups, totals),
+            NewNode::Join { .. } => true,
+            NewNode::SubqueryAlias { .. } => true,
+            NewNode::Union { .. } => true,
+        }
+    }
+
+    /// Question 8: whether a node keeps the limits on fields, trees and names.
+    pub fn is_limited(&self, node: NewNode<'_>) -> bool
+        requires present { ⌜ present (now self) node ≡ true ⌝ }
+        requires bounded { ⌜ bounded node ≡ true ⌝ }
+        ensures { λ r. ⌜ r ≡ limited (viewIn (now (self .entry)) .functions) (treeFor (now (self .entry)) (node .entry)) ⌝ }
+    {
+        if self.width(node) > 64 {
+            return false;
+        }
+        if self.tree_size(node) > 64 {
+            return false;
+        }
+        self.has_short_names(node)
+    }
+}
+
+impl Tables {
+    /// Whether a node's own bytes and its fields' rendered names have room in the text.
+    fn has_text_room(&self, node: NewNode<'_>) -> bool
+        requires present { ⌜ present (now self) node ≡ true ⌝ }
+        requires bounded { ⌜ bounded node ≡ true ⌝ }
+        ensures { λ r. ⌜ r ≡ leb (length (viewIn (now (self .entry)) .bytes) + outlayFor (now (self .entry)) (node .entry) .bytes) 16384 ⌝ }
+    {
+        let room = self.terms.text_room();
+        let own = own_len(node);
+        if room < own {
+            return false;
+        }
+        self.rendered_bytes(node) <= room - own
+    }
+
+    /// Question 9: whether a node has room in every table.
+    pub fn has_room(&self, node: NewNode<'_>) -> bool
+        requires present { ⌜ present (now self) node ≡ true ⌝ }
+        requires bounded { ⌜ bounded node ≡ true ⌝ }
+        ensures { λ r. ⌜ r ≡ fits (modelOf (now (self .entry)) .used) (outlayFor (now (self .entry)) (node .entry)) ⌝ }
+    {
+        if self.len() >= 128 {
+            return false;
+        }
+        if self.terms.list_room() < list_len(node) {
+            return false;
+        }
+        if self.fields.room() < self.width(node) {
+            return false;
+        }
+        self.has_text_room(node)
     }
 }
