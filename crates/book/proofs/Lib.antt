@@ -4,3 +4,7 @@ pub mod Held
 pub mod Placings
 pub mod Answers
 pub mod Draftings
+pub mod NodeFacts
+pub mod Small
+pub mod Commas
+pub mod Fitting

@@ -15,6 +15,8 @@ use terms::terms::Terms;
 
 mod drafting;
 mod expressions;
+mod asking;
+mod measuring;
 mod reading;
 
 #[derive(Drop)]

@@ -32,6 +32,20 @@ impl Terms {
         self.exprs.len()
     }
 
+    /// How many list entries more there is room for.
+    pub fn list_room(&self) -> usize
+        ensures { λ r. ⌜ r + length (viewOf (now (self .entry)) .entries) ≡ 2048 ⌝ }
+    {
+        self.entries.room()
+    }
+
+    /// How many bytes of text more there is room for.
+    pub fn text_room(&self) -> usize
+        ensures { λ r. ⌜ r + length (viewOf (now (self .entry)) .bytes) ≡ 16384 ⌝ }
+    {
+        self.lexicon.room()
+    }
+
     /// The node of an expression.
     pub fn node(&self, e: ExprId) -> ExprNode
         requires { ⌜ e .0 < count (now self) ⌝ }
