@@ -8,3 +8,4 @@ pub mod NodeFacts
 pub mod Small
 pub mod Commas
 pub mod Fitting
+pub mod Adding

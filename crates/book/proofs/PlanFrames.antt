@@ -82,7 +82,7 @@ module _ (v : View) (ts′ : List Expr) (bs′ : List ℕ) (es′ : List Entry) 
       let lt = ltb-true e (length (v .trees)) h in
       (lt-ltb _ _ (omega (arith, length-append (v .trees) ts′)), getD-append-left (v .trees) ts′ noExpr e lt)
 
-  node-grow : (i : ℕ) (n : PlanNode) → insideNode v i n ≡ true
+  pub node-grow : (i : ℕ) (n : PlanNode) → insideNode v i n ≡ true
       → (insideNode (grown v ts′ bs′ es′) i n ≡ true) × ((fs : List Field) (ts : List Plan) → buildPlanNode (grown v ts′ bs′ es′) fs ts n ≡ buildPlanNode v fs ts n)
   node-grow i (Table k q) h =
       let p = and-parts (eqb (k .0) i) (spanIn (v .bytes) q) h in

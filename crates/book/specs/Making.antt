@@ -3,7 +3,7 @@
 --     presentIn v k n, present t n, bounded n, wellNamed n      what a building call has asked before: questions 1, 3 and 2
 --     entriesFor n, bytesFor n      the list entries and the bytes of its own that it takes
 --     nodeQuestions t n      questions 6 to 9 with their answers
---     NodeMade t n r t′      what making it comes to
+--     NodeStored t n r m, NodeMade t n r m      the book with it; what making it comes to
 use Prim.Native.Nat.{ℕ, _+_}
 use lib.Dec.{leb, ltb}
 use lib.ListN.{length}
@@ -126,17 +126,16 @@ outlayFor t n = nodeOutlay (viewIn t .functions) (treeFor t n) (entriesFor n) (b
 abbrev pub nodeQuestions : Tables → NewNode → List Asked
 nodeQuestions t n = nodeAsked (viewIn t .functions) (treeFor t n) ++ (SpaceQuestion, fits (modelOf t .used) (outlayFor t n)) ∷ []
 
--- the new node is behind the others and its own origin
-pub record NodeAdded (t : Tables) (n : NewNode) (r : ℕ) (t′ : Tables) : Type 0 where
-  pub accepted : firstNo (nodeQuestions t n) ≡ None
+-- the new node is behind the others and its own origin; which bytes the text has more is left free
+pub record NodeStored (t : Tables) (n : NewNode) (r : ℕ) (m : Model) : Type 0 where
   pub number : r ≡ planCount t
-  pub functions : modelOf t′ .functions ≡ modelOf t .functions
-  pub exprs : modelOf t′ .exprs ≡ modelOf t .exprs
-  pub plans : modelOf t′ .plans ≡ modelOf t .plans ++ record { tree = treeFor t n; origin = planCount t } ∷ []
+  pub functions : m .functions ≡ modelOf t .functions
+  pub exprs : m .exprs ≡ modelOf t .exprs
+  pub plans : m .plans ≡ modelOf t .plans ++ record { tree = treeFor t n; origin = planCount t } ∷ []
   pub bytes : List ℕ
-  pub text : modelOf t′ .text ≡ modelOf t .text ++ bytes
-  pub used : modelOf t′ .used ≡ plus (modelOf t .used) (outlayFor t n)
+  pub text : m .text ≡ modelOf t .text ++ bytes
+  pub used : m .used ≡ plus (modelOf t .used) (outlayFor t n)
 
-abbrev pub NodeMade : Tables → NewNode → Result PlanId Fault → Tables → Type 0
-NodeMade t n (Ok p) t′ = NodeAdded t n (p .0) t′
-NodeMade t n (Err f) t′ = (firstNo (nodeQuestions t n) ≡ Some (f .question)) × (f ≡ refusal (f .question)) × (modelOf t′ ≡ modelOf t)
+abbrev pub NodeMade : Tables → NewNode → Result PlanId Fault → Model → Type 0
+NodeMade t n (Ok p) m = (firstNo (nodeQuestions t n) ≡ None) × NodeStored t n (p .0) m
+NodeMade t n (Err f) m = (firstNo (nodeQuestions t n) ≡ Some (f .question)) × (f ≡ refusal (f .question)) × (m ≡ modelOf t)

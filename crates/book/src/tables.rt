@@ -13,9 +13,11 @@ use table::table::Table;
 use terms::node::StoredField;
 use terms::terms::Terms;
 
+mod asking;
 mod drafting;
 mod expressions;
-mod asking;
+mod lawful;
+mod making;
 mod measuring;
 mod reading;
 

@@ -71,7 +71,13 @@ fn push_pieces(out: &mut Table<DraftField, 128>, pieces: &[Piece])
 
 impl Tables {
     /// The fields that a join shows.
-    fn draft_join(&self, kind: JoinKind, left: PlanId, right: PlanId, out: &mut Table<DraftField, 128>)
+    fn draft_join(
+        &self,
+        kind: JoinKind,
+        left: PlanId,
+        right: PlanId,
+        out: &mut Table<DraftField, 128>,
+    )
         requires left { ⌜ left .0 < planCount (now self) ⌝ }
         requires right { ⌜ right .0 < planCount (now self) ⌝ }
         requires empty { ⌜ contents (now out) ≡ [] ⌝ }
@@ -111,7 +117,10 @@ impl Tables {
                 push_expressions(&self.terms, out, totals);
             }
             NewNode::Join {
-                kind, left, right, ..
+                kind,
+                left,
+                right,
+                ..
             } => self.draft_join(kind, left, right, out),
             NewNode::SubqueryAlias { input, .. } => push_owned(out, self.fields_of(input)),
             NewNode::Union { inputs } => push_bare(out, self.fields_of(inputs[0])),
