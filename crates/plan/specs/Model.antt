@@ -1,7 +1,8 @@
 -- What a book holds, as contracts speak of it: trees, never table cells.
 --     Space, fits, plus      how much of each table is used; whether so much more has room; both together
+--     Within a o b      no table grew by more than o from a to b
 --     Node, Model      a plan with its origin; a book
-use Prim.Native.Nat.{ℕ, _+_}
+use Prim.Native.Nat.{ℕ, _+_, _≤_}
 use lib.Dec.{leb}
 use lib.ListN.{length, getD}
 use mathlib.Core.Bool.{Bool, _&&_}
@@ -35,6 +36,14 @@ fits used more =
 
 abbrev pub plus : Space → Space → Space
 plus a b = space (a .exprs + b .exprs) (a .plans + b .plans) (a .entries + b .entries) (a .fields + b .fields) (a .bytes + b .bytes)
+
+-- no table grows by more than so much
+pub record Within (used more after : Space) : Type 0 where
+  pub exprs : after .exprs ≤ used .exprs + more .exprs
+  pub plans : after .plans ≤ used .plans + more .plans
+  pub entries : after .entries ≤ used .entries + more .entries
+  pub fields : after .fields ≤ used .fields + more .fields
+  pub bytes : after .bytes ≤ used .bytes + more .bytes
 
 -- the origin is the number of the node that this one was made from; at first its own
 pub record Node : Type 0 where

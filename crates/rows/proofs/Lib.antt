@@ -1,0 +1,14 @@
+pub mod Words
+pub mod Lists
+pub mod Finds
+pub mod Wide
+pub mod Closure
+pub mod Extract
+pub mod JoinLists
+pub mod Joins
+pub mod Sides
+pub mod Nulls
+pub mod More
+pub mod Congruence
+pub mod Resolving
+pub mod Theorems
