@@ -1,0 +1,13 @@
+pub mod Generated
+pub mod Outlay
+pub mod Routing
+pub mod Extracting
+pub mod Pushing
+pub mod Ring
+pub mod Laws
+pub mod Worked
+pub mod Fresh
+pub mod Marked
+pub mod Book
+pub mod Reached
+pub mod Sample
