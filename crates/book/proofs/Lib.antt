@@ -9,3 +9,4 @@ pub mod Small
 pub mod Commas
 pub mod Fitting
 pub mod Adding
+pub mod NodeAnswers

@@ -19,6 +19,7 @@ mod expressions;
 mod lawful;
 mod making;
 mod measuring;
+mod nodes;
 mod reading;
 
 #[derive(Drop)]
