@@ -37,7 +37,7 @@ use Rattle.book.specs.declared.node.NewNode.{NewNode}
 use Rattle.book.specs.declared.node.NewNode.the-variants.{Table, Projection, Filter, Sort, Limit, Aggregate, Join, SubqueryAlias, Union}
 use Rattle.book.specs.declared.node.PlanRecord.{PlanRecord}
 use Rattle.book.specs.declared.placing.Placed.{Placed}
-use Rattle.book.specs.declared.tables.Tables.{Tables}
+use Rattle.book.specs.declared.tables.OpenBook.{OpenBook}
 use Rattle.book.proofs.PlanFrames.{node-grow, plans-grow}
 use Rattle.book.proofs.PlanFacts.{PlanFacts, facts-grow, facts-push, nodes-push}
 use Rattle.book.proofs.Held.{facts-in, counted}
@@ -105,7 +105,7 @@ pub stored-for : (w u : View) (o g : List ℕ) (ds es : List DraftField) (fs F :
 stored-for w u o g ds es fs F e h = subst (λ l. StoredAll w o g l fs u F) e h
 
 -- after the names and lists: the draft is as it was
-module _ (t : Tables) (n : NewNode) (k : ℕ) (ds : List DraftField) (dr : ShownDraft t n ds) (w : View) (x : Placed) (px : PlacedAs (viewIn t) k n x w) where
+module _ (t : OpenBook) (n : NewNode) (k : ℕ) (ds : List DraftField) (dr : ShownDraft t n ds) (w : View) (x : Placed) (px : PlacedAs (viewIn t) k n x w) where
   kept : (map (draftField w (word (w .bytes) (x .owner)) (word (w .bytes) (x .given))) ds ≡ fieldsOf (viewIn t .functions) (treeFor t n))
       × (every (draftIn w (word (w .bytes) (x .owner)) (word (w .bytes) (x .given))) ds ≡ true)
       × (draftBytes w ds ≡ sumBy (renderedBytes (viewIn t .functions)) (shownExpressions (treeFor t n)))

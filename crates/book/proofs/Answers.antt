@@ -27,7 +27,7 @@ use Rattle.book.specs.Stored.{planNodes}
 use Rattle.book.specs.Holding.{viewIn, nodesOf, modelFrom, modelOf}
 use Rattle.book.specs.Answering.{answeredExpr}
 use Rattle.book.specs.declared.node.PlanRecord.{PlanRecord}
-use Rattle.book.specs.declared.tables.Tables.{Tables}
+use Rattle.book.specs.declared.tables.OpenBook.{OpenBook}
 use Rattle.book.proofs.PlanFrames.{plans-grow}
 use Rattle.book.proofs.PlanFacts.{PlanFacts, facts-grow}
 use Rattle.book.proofs.Held.{facts-in, counted}
@@ -75,7 +75,7 @@ space-same a b c d e a′ b′ c′ d′ e′ p q r s t = cc
 none : (n k : ℕ) → k ≡ 0 → n ≡ n + k
 none n k e = omega arith
 
-module _ (t : Tables) (w : View) (c : Call) (s : SameCall (modelOf t) (viewIn t) c) where
+module _ (t : OpenBook) (w : View) (c : Call) (s : SameCall (modelOf t) (viewIn t) c) where
   all-same : allAsked (modelOf t) c ≡ allAskedOf (viewIn t) c
   all-same =
       let p : length (nodesOf t) ≤ 128 = omega (arith, counted t, held (t .plans)) in

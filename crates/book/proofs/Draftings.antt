@@ -36,14 +36,14 @@ use Rattle.book.specs.Making.{treeFor, treeOver, inputNumbers}
 use Rattle.book.specs.Placing.{lentOwner, lentGiven}
 use Rattle.book.specs.Drafting.{DraftOf, asPiece}
 use Rattle.book.specs.declared.node.NewNode.{NewNode}
-use Rattle.book.specs.declared.tables.Tables.{Tables}
+use Rattle.book.specs.declared.tables.OpenBook.{OpenBook}
 
 -- a draft of what a new node shows, and of what has to be lawful together
-abbrev pub ShownDraft : Tables → NewNode → List DraftField → Type 0
+abbrev pub ShownDraft : OpenBook → NewNode → List DraftField → Type 0
 ShownDraft t n ds =
     DraftOf (viewIn t) (lentOwner n) (lentGiven n) (fieldsOf (viewIn t .functions) (treeFor t n)) (sumBy (renderedBytes (viewIn t .functions)) (shownExpressions (treeFor t n))) ds
 
-pub for-new : (t : Tables) (n m : NewNode) (ds : List DraftField) → n ≡ m → ShownDraft t m ds → ShownDraft t n ds
+pub for-new : (t : OpenBook) (n m : NewNode) (ds : List DraftField) → n ≡ m → ShownDraft t m ds → ShownDraft t n ds
 for-new t n m ds e h = subst (λ x. ShownDraft t x ds) (sym e) h
 
 module _ (v : View) (o g : List ℕ) (Fs : List Field) (fs : List StoredField) (is : map (storedField (v .bytes)) fs ≡ Fs) (all : every (storedIn (v .bytes)) fs ≡ true) (before after : List DraftField) (e : before ≡ []) where

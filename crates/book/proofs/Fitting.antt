@@ -10,7 +10,7 @@ use Rattle.table.proofs.Held.{held}
 use Rattle.plan.specs.Model.{Space, fits}
 use Rattle.terms.proofs.Facts.{counted}
 use Rattle.book.specs.Holding.{viewIn}
-use Rattle.book.specs.declared.tables.Tables.{Tables}
+use Rattle.book.specs.declared.tables.OpenBook.{OpenBook}
 
 pub rest-fits : (u m : Space) → u .exprs + m .exprs ≤ 1024 → u .plans + m .plans ≤ 128 → u .entries + m .entries ≤ 2048 → u .fields + m .fields ≤ 2048 → leb (u .bytes + m .bytes) 16384 ≡ fits u m
 rest-fits u m e p l f =
@@ -18,5 +18,5 @@ rest-fits u m e p l f =
     sym (ap₂ (λ x y. (x && y) && (leb (u .entries + m .entries) 2048 && (leb (u .fields + m .fields) 2048 && b))) (le-leb _ _ e) (le-leb _ _ p) ∙ ap₂ (λ x y. x && (y && b)) (le-leb _ _ l) (le-leb _ _ f))
 
 -- there are never too many expressions
-pub exprs-fit : (t : Tables) → length (viewIn t .trees) + 0 ≤ 1024
+pub exprs-fit : (t : OpenBook) → length (viewIn t .trees) + 0 ≤ 1024
 exprs-fit t = omega (arith, counted (t .terms), held (t .terms .exprs))

@@ -9,16 +9,16 @@ use Rattle.book.specs.Holding.{viewIn, nodesOf, treesIn, planCount}
 use Rattle.book.specs.Reading.{ReadsAs}
 use Rattle.book.specs.Stored.{buildPlanNode}
 use Rattle.book.specs.declared.node.PlanRecord.{PlanRecord}
-use Rattle.book.specs.declared.tables.Tables.{Tables}
+use Rattle.book.specs.declared.tables.OpenBook.{OpenBook}
 use Rattle.book.proofs.PlanFacts.{PlanFacts, PlanAt, plan-at, nodes-length}
 
-pub facts-in : (t : Tables) → PlanFacts (viewIn t) (contents (t .fields)) (contents (t .plans))
+pub facts-in : (t : OpenBook) → PlanFacts (viewIn t) (contents (t .fields)) (contents (t .plans))
 facts-in t = record { are-stored = t .stored; are-sound = t .sound; are-fielded = t .fielded; have-sizes = t .sizes }
 
-pub counted : (t : Tables) → planCount t ≡ length (contents (t .plans))
+pub counted : (t : OpenBook) → planCount t ≡ length (contents (t .plans))
 counted t = nodes-length (viewIn t) (contents (t .fields)) (contents (t .plans))
 
-pub reads-as : (t : Tables) (i : ℕ) (r : PlanRecord) → i < planCount t → r ≡ getD (contents (t .plans)) i r → ReadsAs t i r
+pub reads-as : (t : OpenBook) (i : ℕ) (r : PlanRecord) → i < planCount t → r ≡ getD (contents (t .plans)) i r → ReadsAs t i r
 reads-as t i r lt e =
     let a = plan-at (viewIn t) (contents (t .fields)) (contents (t .plans)) i r (facts-in t) (omega (arith, counted t)) e in
     record {

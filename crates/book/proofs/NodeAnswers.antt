@@ -19,7 +19,7 @@ use Rattle.book.specs.Holding.{viewIn, modelOf, planCount}
 use Rattle.book.specs.Making.{treeFor, outlayFor, nodeQuestions, NodeMade}
 use Rattle.book.specs.Answering.{answeredPlan}
 use Rattle.book.specs.declared.node.NewNode.{NewNode}
-use Rattle.book.specs.declared.tables.Tables.{Tables}
+use Rattle.book.specs.declared.tables.OpenBook.{OpenBook}
 
 -- every question is answered yes
 abbrev pub AllYes : List Asked → Type 0
@@ -31,7 +31,7 @@ go-on [] rest h = refl
 go-on (a ∷ qs) rest h = cond-true (a .1) _ _ (h .0) ∙ go-on qs rest (h .1)
 
 -- the call c makes the node n, when its own questions, which are these, are answered yes
-pub record Makes (t : Tables) (n : NewNode) (c : Call) (own : List Asked) : Type 0 where
+pub record Makes (t : OpenBook) (n : NewNode) (c : Call) (own : List Asked) : Type 0 where
   pub asks : allAsked (modelOf t) c ≡ asked (modelOf t) c ++ (SpaceQuestion, fits (modelOf t .used) (outlay (modelOf t) c)) ∷ []
   pub own-first : asked (modelOf t) c ≡ own ++ nodeAsked (viewIn t .functions) (treeFor t n)
   pub exprs : newExprs (modelOf t) c ≡ []
@@ -39,7 +39,7 @@ pub record Makes (t : Tables) (n : NewNode) (c : Call) (own : List Asked) : Type
   pub costs : outlay (modelOf t) c ≡ outlayFor t n
   pub number : numberOfNew (modelOf t) c ≡ planCount t
 
-module _ (t : Tables) (n : NewNode) (c : Call) (own : List Asked) (k : Makes t n c own) (yes : AllYes own) where
+module _ (t : OpenBook) (n : NewNode) (c : Call) (own : List Asked) (k : Makes t n c own) (yes : AllYes own) where
   same-questions : firstNo (allAsked (modelOf t) c) ≡ firstNo (nodeQuestions t n)
   same-questions =
       ap firstNo (k .asks ∙ ap₂ (λ qs o. qs ++ (SpaceQuestion, fits (modelOf t .used) o) ∷ []) (k .own-first) (k .costs) ∙ append-assoc own (nodeAsked (viewIn t .functions) (treeFor t n)) _)

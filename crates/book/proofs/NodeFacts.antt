@@ -27,10 +27,10 @@ use Rattle.book.specs.Making.{newKey, keyNumbers, inputNumbers, present, bound
 use Rattle.book.specs.declared.node.NewNode.{NewNode}
 use Rattle.book.specs.declared.node.NewNode.the-variants.{Table, Projection, Filter, Sort, Aggregate, Join}
 use Rattle.book.specs.declared.node.SortKey.{SortKey}
-use Rattle.book.specs.declared.tables.Tables.{Tables}
+use Rattle.book.specs.declared.tables.OpenBook.{OpenBook}
 
 -- every node and expression that it names stands in the book
-module _ (t : Tables) (n : NewNode) (h : present t n ≡ true) where
+module _ (t : OpenBook) (n : NewNode) (h : present t n ≡ true) where
   pub projection-in : (i : PlanId) (l : RefT (List ExprId)) → n ≡ Projection i l → (i .0 < planCount t) × (allBelow (length (viewIn t .trees)) (numbersOf (l .now)) ≡ true)
   projection-in i l e =
       let p = and-parts (below (planCount t) (i .0)) _ (subst (λ m. present t m ≡ true) e h) in

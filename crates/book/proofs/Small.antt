@@ -24,10 +24,10 @@ use Rattle.book.specs.Holding.{viewIn, treesIn}
 use Rattle.book.specs.Making.{inputNumbers, present, treeFor}
 use Rattle.book.specs.declared.node.NewNode.{NewNode}
 use Rattle.book.specs.declared.node.NewNode.the-variants.{Table, Projection, Filter, Sort, Limit, Aggregate, Join, SubqueryAlias, Union}
-use Rattle.book.specs.declared.tables.Tables.{Tables}
+use Rattle.book.specs.declared.tables.OpenBook.{OpenBook}
 use Rattle.book.proofs.NodeFacts.{projection-in, filter-in, sort-in, aggregate-in, join-in, key-expressions, union-expressions}
 
-module _ (t : Tables) where
+module _ (t : OpenBook) where
   one-accepted : (i : ℕ) → i < length (viewIn t .trees) → acceptable (viewIn t .functions) (exprIn (viewIn t .trees) i) ≡ true
   one-accepted i lt = every-at (acceptable (viewIn t .functions)) (viewIn t .trees) i noExpr lt (t .terms .accepted)
 

@@ -13,15 +13,15 @@ use Rattle.terms.specs.Views.{View, viewOf}
 use Rattle.book.specs.Stored.{planNodes, planTrees}
 use Rattle.terms.specs.declared.node.StoredField.{StoredField}
 use Rattle.book.specs.declared.node.PlanRecord.{PlanRecord}
-use Rattle.book.specs.declared.tables.Tables.{Tables}
+use Rattle.book.specs.declared.tables.OpenBook.{OpenBook}
 
-abbrev pub viewIn : Tables → View
+abbrev pub viewIn : OpenBook → View
 viewIn t = viewOf (t .terms)
 
-abbrev pub nodesOf : Tables → List Node
+abbrev pub nodesOf : OpenBook → List Node
 nodesOf t = planNodes (viewIn t) (contents (t .fields)) (contents (t .plans))
 
-abbrev pub treesIn : Tables → List Plan
+abbrev pub treesIn : OpenBook → List Plan
 treesIn t = planTrees (viewIn t) (contents (t .fields)) (contents (t .plans))
 
 -- the model of expressions, fields and records
@@ -34,14 +34,14 @@ modelFrom v fields rs = record {
   used = space (length (v .trees)) (length (planNodes v fields rs)) (length (v .entries)) (length fields) (length (v .bytes));
 }
 
-abbrev pub modelOf : Tables → Model
+abbrev pub modelOf : OpenBook → Model
 modelOf t = modelFrom (viewIn t) (contents (t .fields)) (contents (t .plans))
 
-abbrev pub treeIn : Tables → ℕ → Plan
+abbrev pub treeIn : OpenBook → ℕ → Plan
 treeIn t p = planIn (treesIn t) p
 
-abbrev pub fieldsAt : Tables → ℕ → List Field
+abbrev pub fieldsAt : OpenBook → ℕ → List Field
 fieldsAt t p = fieldsOf (viewIn t .functions) (treeIn t p)
 
-abbrev pub planCount : Tables → ℕ
+abbrev pub planCount : OpenBook → ℕ
 planCount t = length (nodesOf t)

@@ -31,7 +31,7 @@ use Rattle.book.specs.Holding.{viewIn, nodesOf, treesIn, treeIn, modelOf, plan
 use Rattle.book.specs.declared.node.NewNode.{NewNode}
 use Rattle.book.specs.declared.node.NewNode.the-variants.{Table, Projection, Filter, Sort, Limit, Aggregate, Join, SubqueryAlias, Union}
 use Rattle.book.specs.declared.node.SortKey.{SortKey}
-use Rattle.book.specs.declared.tables.Tables.{Tables}
+use Rattle.book.specs.declared.tables.OpenBook.{OpenBook}
 
 abbrev pub newKey : List Expr → SortKey → Key
 newKey ts k = record { by = exprIn ts (k .by .0); direction = k .direction }
@@ -54,7 +54,7 @@ treeOver v k ts (Join j l r cs) = join j (exprsIn (v .trees) (numbersOf (cs .now
 treeOver v k ts (SubqueryAlias i n) = subqueryAlias (n .now) (planIn ts (i .0))
 treeOver v k ts (Union is) = unionOf (plansIn ts (inputNumbers (is .now)))
 
-abbrev pub treeFor : Tables → NewNode → Plan
+abbrev pub treeFor : OpenBook → NewNode → Plan
 treeFor t n = treeOver (viewIn t) (planCount t) (treesIn t) n
 
 -- every node below k and every expression that it names is there
@@ -70,7 +70,7 @@ presentIn v k (SubqueryAlias i n) = below k (i .0)
 presentIn v k (Union is) = allBelow k (inputNumbers (is .now))
 
 -- the same of the tables of a book
-abbrev pub present : Tables → NewNode → Bool
+abbrev pub present : OpenBook → NewNode → Bool
 present t n = presentIn (viewIn t) (planCount t) n
 
 -- its lists are not too long
@@ -120,14 +120,14 @@ bytesFor (SubqueryAlias i n) = length (n .now)
 bytesFor (Union is) = 0
 
 -- the places that it takes
-abbrev pub outlayFor : Tables → NewNode → Space
+abbrev pub outlayFor : OpenBook → NewNode → Space
 outlayFor t n = nodeOutlay (viewIn t .functions) (treeFor t n) (entriesFor n) (bytesFor n)
 
-abbrev pub nodeQuestions : Tables → NewNode → List Asked
+abbrev pub nodeQuestions : OpenBook → NewNode → List Asked
 nodeQuestions t n = nodeAsked (viewIn t .functions) (treeFor t n) ++ (SpaceQuestion, fits (modelOf t .used) (outlayFor t n)) ∷ []
 
 -- the new node is behind the others and its own origin; which bytes the text has more is left free
-pub record NodeStored (t : Tables) (n : NewNode) (r : ℕ) (m : Model) : Type 0 where
+pub record NodeStored (t : OpenBook) (n : NewNode) (r : ℕ) (m : Model) : Type 0 where
   pub number : r ≡ planCount t
   pub functions : m .functions ≡ modelOf t .functions
   pub exprs : m .exprs ≡ modelOf t .exprs
@@ -136,6 +136,6 @@ pub record NodeStored (t : Tables) (n : NewNode) (r : ℕ) (m : Model) : Type 0 
   pub text : m .text ≡ modelOf t .text ++ bytes
   pub used : m .used ≡ plus (modelOf t .used) (outlayFor t n)
 
-abbrev pub NodeMade : Tables → NewNode → Result PlanId Fault → Model → Type 0
+abbrev pub NodeMade : OpenBook → NewNode → Result PlanId Fault → Model → Type 0
 NodeMade t n (Ok p) m = (firstNo (nodeQuestions t n) ≡ None) × NodeStored t n (p .0) m
 NodeMade t n (Err f) m = (firstNo (nodeQuestions t n) ≡ Some (f .question)) × (f ≡ refusal (f .question)) × (m ≡ modelOf t)

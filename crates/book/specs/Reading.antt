@@ -11,12 +11,12 @@ use Rattle.plan.specs.Model.{Node, noPlan}
 use Rattle.book.specs.Stored.{fieldsIn, runIn, buildPlanNode, insideNode}
 use Rattle.book.specs.Holding.{viewIn, nodesOf, treesIn, treeIn, fieldsAt}
 use Rattle.book.specs.declared.node.PlanRecord.{PlanRecord}
-use Rattle.book.specs.declared.tables.Tables.{Tables}
+use Rattle.book.specs.declared.tables.OpenBook.{OpenBook}
 
 abbrev pub noNode : Node
 noNode = record { tree = noPlan; origin = 0 }
 
-pub record ReadsAs (t : Tables) (p : ℕ) (r : PlanRecord) : Type 0 where
+pub record ReadsAs (t : OpenBook) (p : ℕ) (r : PlanRecord) : Type 0 where
   pub tree : treeIn t p ≡ buildPlanNode (viewIn t) (fieldsAt t p) (treesIn t) (r .node)
   pub inside : insideNode (viewIn t) p (r .node) ≡ true
   pub run : runIn (contents (t .fields)) (r .fields) ≡ true

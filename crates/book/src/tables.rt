@@ -23,7 +23,7 @@ mod nodes;
 mod reading;
 
 #[derive(Drop)]
-pub struct Tables {
+pub struct OpenBook {
     terms: Terms,
     fields: Table<StoredField, 2048>,
     plans: Table<PlanRecord, 128>,

@@ -13,7 +13,7 @@ ghost use lib.ListN.{length};
 ghost use mathlib.Core.Bool.{true};
 ghost use mathlib.Core.List.{_++_, map};
 ghost use mathlib.Core.Path.{_≡_};
-use super::Tables;
+use super::OpenBook;
 use crate::node::NewNode;
 use crate::node::SortKey;
 use table::table::Table;
@@ -56,7 +56,7 @@ fn own_len(node: NewNode<'_>) -> usize
     }
 }
 
-impl Tables {
+impl OpenBook {
     /// Whether every reference of some expressions resolves among the fields of one or two inputs.
     fn all_resolved(&self, left: &[StoredField], right: &[StoredField], ids: &[ExprId]) -> bool
         requires left { ⌜ every (storedIn (viewIn (now self) .bytes)) (now left) ≡ true ⌝ }
@@ -128,7 +128,7 @@ impl Tables {
     }
 
     /// Question 6: whether every reference of a node resolves among the fields of its inputs.
-    pub fn is_resolved(&self, node: NewNode<'_>) -> bool
+    pub(super) fn is_resolved(&self, node: NewNode<'_>) -> bool
         requires { ⌜ present (now self) node ≡ true ⌝ }
         ensures { λ r. ⌜ r ≡ every (resolved (inputFields (viewIn (now (self .entry)) .functions) (treeFor (now (self .entry)) (node .entry)))) (expressionsOf (treeFor (now (self .entry)) (node .entry))) ⌝ }
     {
@@ -155,7 +155,7 @@ impl Tables {
     }
 }
 
-impl Tables {
+impl OpenBook {
     /// Whether the rendered names of some expressions are short.
     fn all_short(&self, ids: &[ExprId]) -> bool
         requires { ⌜ allBelow (length (viewIn (now self) .trees)) (numbersOf (now ids)) ≡ true ⌝ }
@@ -182,7 +182,7 @@ impl Tables {
     }
 
     /// Whether the rendered names that a node's fields take are short.
-    pub fn has_short_names(&self, node: NewNode<'_>) -> bool
+    pub(super) fn has_short_names(&self, node: NewNode<'_>) -> bool
         requires { ⌜ present (now self) node ≡ true ⌝ }
         ensures { λ r. ⌜ r ≡ every (shortName (viewIn (now (self .entry)) .functions)) (shownExpressions (treeFor (now (self .entry)) (node .entry))) ⌝ }
     {
@@ -200,7 +200,7 @@ impl Tables {
     }
 
     /// Question 8: whether a node keeps the limits on fields, trees and names.
-    pub fn is_limited(&self, node: NewNode<'_>) -> bool
+    pub(super) fn is_limited(&self, node: NewNode<'_>) -> bool
         requires present { ⌜ present (now self) node ≡ true ⌝ }
         requires bounded { ⌜ bounded node ≡ true ⌝ }
         ensures { λ r. ⌜ r ≡ limited (viewIn (now (self .entry)) .functions) (treeFor (now (self .entry)) (node .entry)) ⌝ }
@@ -215,7 +215,7 @@ impl Tables {
     }
 }
 
-impl Tables {
+impl OpenBook {
     /// Whether a node's own bytes and its fields' rendered names have room in the text.
     fn has_text_room(&self, node: NewNode<'_>) -> bool
         requires present { ⌜ present (now self) node ≡ true ⌝ }
@@ -231,7 +231,7 @@ impl Tables {
     }
 
     /// Question 9: whether a node has room in every table.
-    pub fn has_room(&self, node: NewNode<'_>) -> bool
+    pub(super) fn has_room(&self, node: NewNode<'_>) -> bool
         requires present { ⌜ present (now self) node ≡ true ⌝ }
         requires bounded { ⌜ bounded node ≡ true ⌝ }
         ensures { λ r. ⌜ r ≡ fits (modelOf (now (self .entry)) .used) (outlayFor (now (self .entry)) (node .entry)) ⌝ }

@@ -17,7 +17,7 @@ ghost use lib.ListN.{length};
 ghost use mathlib.Core.Bool.{true};
 ghost use mathlib.Core.List.{[], _++_, map};
 ghost use mathlib.Core.Path.{_≡_};
-use super::Tables;
+use super::OpenBook;
 use crate::node::NewNode;
 use draft::building::push_bare;
 use draft::building::push_expressions;
@@ -69,7 +69,7 @@ fn push_pieces(out: &mut Table<DraftField, 128>, pieces: &[Piece])
     }
 }
 
-impl Tables {
+impl OpenBook {
     /// The fields that a join shows.
     fn draft_join(
         &self,
@@ -95,7 +95,7 @@ impl Tables {
     }
 
     /// The fields that the new node shows.
-    pub fn draft_shown(&self, node: NewNode<'_>, out: &mut Table<DraftField, 128>)
+    pub(super) fn draft_shown(&self, node: NewNode<'_>, out: &mut Table<DraftField, 128>)
         requires present { ⌜ present (now self) node ≡ true ⌝ }
         requires bounded { ⌜ bounded node ≡ true ⌝ }
         requires named { ⌜ wellNamed node ≡ true ⌝ }

@@ -6,12 +6,12 @@ ghost use Rattle.plan.specs.Calls.{Answers};
 ghost use Rattle.plan.specs.Terms.Literal.{null as nullLiteral, real as realLiteral, text as textLiteral, truth as truthLiteral, whole as wholeLiteral};
 ghost use Rattle.terms.specs.Building.{givenField};
 ghost use Rattle.terms.specs.Views.{numbersOf};
-use super::Tables;
+use super::OpenBook;
 use plan::fault::Fault;
 use terms::node::ExprId;
 use terms::terms::Terms;
 
-impl Tables {
+impl OpenBook {
     /// The null literal.
     pub fn null(&mut self) -> Result<ExprId, Fault>
         ensures { λ r. ⌜ Answers (modelOf (now (self .entry))) (makeLiteral nullLiteral) (answeredExpr r) (modelOf (now (self .exit))) ⌝ }

@@ -9,7 +9,7 @@ ghost use Rattle.plan.specs.Questions.{jointFields};
 ghost use mathlib.Core.Bool.{true};
 ghost use mathlib.Core.List.{_++_};
 ghost use mathlib.Core.Path.{_≡_};
-use super::Tables;
+use super::OpenBook;
 use crate::node::NewNode;
 use draft::building::push_stored;
 use draft::lawful::is_lawful;
@@ -62,7 +62,7 @@ fn lent_given<'a>(node: NewNode<'a>) -> &'a [u8]
     }
 }
 
-impl Tables {
+impl OpenBook {
     fn is_lawful_join(&self, left: PlanId, right: PlanId) -> bool
         requires left { ⌜ left .0 < planCount (now self) ⌝ }
         requires right { ⌜ right .0 < planCount (now self) ⌝ }
@@ -91,7 +91,7 @@ impl Tables {
     }
 
     /// Whether the fields of the new node, and of both sides of a join, may stand in one list.
-    pub fn is_lawful_node(&self, node: NewNode<'_>) -> bool
+    pub(super) fn is_lawful_node(&self, node: NewNode<'_>) -> bool
         requires present { ⌜ present (now self) node ≡ true ⌝ }
         requires bounded { ⌜ bounded node ≡ true ⌝ }
         requires named { ⌜ wellNamed node ≡ true ⌝ }

@@ -7,7 +7,7 @@ ghost use Rattle.plan.specs.Model.{fits};
 ghost use Rattle.plan.specs.Questions.{limited};
 ghost use mathlib.Core.Bool.{true};
 ghost use mathlib.Core.Path.{_≡_};
-use super::Tables;
+use super::OpenBook;
 use super::lawful::blank;
 use crate::node::NewNode;
 use crate::node::PlanRecord;
@@ -20,7 +20,7 @@ use plan::fault::ask;
 use table::table::Table;
 use terms::node::PlanId;
 
-impl Tables {
+impl OpenBook {
     /// Stores a node that has passed its questions.
     fn add(&mut self, node: NewNode<'_>) -> PlanId
         requires present { ⌜ present (now self) node ≡ true ⌝ }
@@ -54,7 +54,7 @@ impl Tables {
     }
 
     /// Asks the questions on references, fields, limits and space, and stores the node.
-    pub fn make(&mut self, node: NewNode<'_>) -> Result<PlanId, Fault>
+    pub(super) fn make(&mut self, node: NewNode<'_>) -> Result<PlanId, Fault>
         requires present { ⌜ present (now self) node ≡ true ⌝ }
         requires bounded { ⌜ bounded node ≡ true ⌝ }
         requires named { ⌜ wellNamed node ≡ true ⌝ }

@@ -11,7 +11,7 @@ ghost use Rattle.terms.specs.Views.{numbersOf};
 ghost use lib.ListN.{length};
 ghost use mathlib.Core.Bool.{true};
 ghost use mathlib.Core.Path.{_≡_};
-use super::Tables;
+use super::OpenBook;
 use crate::node::NewNode;
 use plan::code::JoinKind;
 use terms::node::ExprId;
@@ -32,7 +32,7 @@ fn count_parts(text: &[u8]) -> usize
     count
 }
 
-impl Tables {
+impl OpenBook {
     /// How many fields a node has.
     fn width_of(&self, p: PlanId) -> usize
         requires { ⌜ p .0 < planCount (now self) ⌝ }
@@ -69,7 +69,7 @@ impl Tables {
     }
 
     /// How many fields a node has once it is made.
-    pub fn width(&self, node: NewNode<'_>) -> usize
+    pub(super) fn width(&self, node: NewNode<'_>) -> usize
         requires present { ⌜ present (now self) node ≡ true ⌝ }
         requires bounded { ⌜ bounded node ≡ true ⌝ }
         ensures value { λ r. ⌜ r ≡ length (fieldsOf (viewIn (now (self .entry)) .functions) (treeFor (now (self .entry)) (node .entry))) ⌝ }
@@ -94,7 +94,7 @@ impl Tables {
     }
 }
 
-impl Tables {
+impl OpenBook {
     /// How many nodes the trees of at most eight nodes have together.
     fn sizes_of(&self, inputs: &[PlanId]) -> u32
         requires few { ⌜ length (now inputs) ≤ 8 ⌝ }
@@ -110,7 +110,7 @@ impl Tables {
     }
 
     /// How many nodes the tree of a node has once it is made.
-    pub fn tree_size(&self, node: NewNode<'_>) -> u32
+    pub(super) fn tree_size(&self, node: NewNode<'_>) -> u32
         requires present { ⌜ present (now self) node ≡ true ⌝ }
         requires bounded { ⌜ bounded node ≡ true ⌝ }
         ensures { λ r. ⌜ r ≡ planSizeOf (treeFor (now (self .entry)) (node .entry)) ⌝ }
@@ -129,7 +129,7 @@ impl Tables {
     }
 }
 
-impl Tables {
+impl OpenBook {
     /// How many bytes the rendered name of an expression takes where it is shown; none where it has its own.
     pub(super) fn name_bytes(&self, e: ExprId) -> u32
         requires { ⌜ e .0 < length (viewIn (now self) .trees) ⌝ }
@@ -159,7 +159,7 @@ impl Tables {
     }
 
     /// How many bytes the rendered names that a node's fields take have together.
-    pub fn rendered_bytes(&self, node: NewNode<'_>) -> usize
+    pub(super) fn rendered_bytes(&self, node: NewNode<'_>) -> usize
         requires present { ⌜ present (now self) node ≡ true ⌝ }
         requires bounded { ⌜ bounded node ≡ true ⌝ }
         ensures value { λ r. ⌜ r ≡ sumBy (renderedBytes (viewIn (now (self .entry)) .functions)) (shownExpressions (treeFor (now (self .entry)) (node .entry))) ⌝ }

@@ -13,7 +13,7 @@ ghost use lib.Dec.{leb};
 ghost use lib.ListN.{length};
 ghost use mathlib.Core.Bool.{_&&_, not, true};
 ghost use mathlib.Core.Path.{_≡_};
-use super::Tables;
+use super::OpenBook;
 use crate::node::NewNode;
 use names::good_name;
 use names::parts::count_names;
@@ -62,7 +62,7 @@ fn limit_node<'a>(input: PlanId, skip: u32, count: u32) -> NewNode<'a>
     NewNode::Limit { input, skip, count }
 }
 
-impl Tables {
+impl OpenBook {
     /// Whether a node and some expressions stand in the book.
     pub(super) fn has_list(&self, input: PlanId, ids: &[ExprId]) -> bool
         ensures { λ r. ⌜ r ≡ (below (planCount (now (self .entry))) (input .0) && allBelow (length (viewIn (now (self .entry)) .trees)) (numbersOf (now (ids .entry)))) ⌝ }

@@ -10,13 +10,13 @@ ghost use lib.ListN.{length};
 ghost use mathlib.Core.Bool.{true};
 ghost use mathlib.Core.List.{map};
 ghost use mathlib.Core.Path.{_≡_};
-use super::Tables;
+use super::OpenBook;
 use crate::node::PlanRecord;
 use table::table::Table;
 use terms::node::PlanId;
 use terms::node::StoredField;
 
-impl Tables {
+impl OpenBook {
     /// How many nodes there are.
     pub fn len(&self) -> usize
         ensures value { λ r. ⌜ r ≡ planCount (now (self .entry)) ⌝ }
@@ -33,7 +33,7 @@ impl Tables {
     }
 
     /// What the table holds of a node.
-    pub fn record_of(&self, p: PlanId) -> PlanRecord
+    pub(super) fn record_of(&self, p: PlanId) -> PlanRecord
         requires { ⌜ p .0 < planCount (now self) ⌝ }
         ensures { λ r. ⌜ ReadsAs (now (self .entry)) (p .0) r ⌝ }
     {
@@ -41,7 +41,7 @@ impl Tables {
     }
 
     /// The fields of a node.
-    pub fn fields_of(&self, p: PlanId) -> &[StoredField]
+    pub(super) fn fields_of(&self, p: PlanId) -> &[StoredField]
         requires { ⌜ p .0 < planCount (now self) ⌝ }
         ensures value { λ r. ⌜ map (storedField (viewIn (now (self .entry)) .bytes)) (now r) ≡ fieldsAt (now (self .entry)) (p .0) ⌝ }
         ensures stored { λ r. ⌜ every (storedIn (viewIn (now (self .entry)) .bytes)) (now r) ≡ true ⌝ }
@@ -52,7 +52,7 @@ impl Tables {
     }
 
     /// How many nodes a node's tree has.
-    pub fn size_of(&self, p: PlanId) -> u32
+    pub(super) fn size_of(&self, p: PlanId) -> u32
         requires { ⌜ p .0 < planCount (now self) ⌝ }
         ensures value { λ r. ⌜ r ≡ planSizeOf (treeIn (now (self .entry)) (p .0)) ⌝ }
         ensures bound { λ r. ⌜ r ≤ 64 ⌝ }
