@@ -6,3 +6,5 @@ pub mod Placing
 pub mod Listing
 pub mod Answering
 pub mod Drafting
+pub mod Declaration
+pub mod Looking

@@ -17,9 +17,11 @@ mod asking;
 mod drafting;
 mod expressions;
 mod lawful;
+mod looking;
 mod making;
 mod measuring;
 mod nodes;
+mod opening;
 mod reading;
 
 #[derive(Drop)]
