@@ -10,3 +10,5 @@ pub mod Commas
 pub mod Fitting
 pub mod Adding
 pub mod NodeAnswers
+pub mod WiderFacts
+pub mod SortFacts

@@ -8,3 +8,4 @@ pub mod Answering
 pub mod Drafting
 pub mod Declaration
 pub mod Looking
+pub mod Keys

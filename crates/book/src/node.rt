@@ -72,6 +72,13 @@ pub struct SortKey {
     pub direction: Direction,
 }
 
+/// A Sort key as a caller gives it, with the number of its direction.
+#[derive(Clone, Copy)]
+pub struct Key {
+    pub by: ExprId,
+    pub direction: u8,
+}
+
 /// A node that is to be made.
 #[derive(Clone, Copy)]
 pub enum NewNode<'a> {

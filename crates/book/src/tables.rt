@@ -23,6 +23,7 @@ mod measuring;
 mod nodes;
 mod opening;
 mod reading;
+mod wider;
 
 #[derive(Drop)]
 pub struct OpenBook {
