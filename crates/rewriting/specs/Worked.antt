@@ -30,6 +30,9 @@ use Rattle.plan.specs.declared.code.Rule.{Rule}
 use Rattle.plan.specs.declared.code.Rule.the-variants.{Stay, FirstColumn, AnyColumn, Total}
 use Rattle.plan.specs.declared.fault.Question.the-variants.{Resolved, Lawful, Limited}
 use Rattle.plan.specs.declared.fault.Stage.the-variants.{Extraction, Rebuilt}
+use Rattle.plan.specs.Values.{isNullValue}
+use Rattle.plan.specs.Values.Value.{whole as wholeValue}
+use Rattle.engine.specs.Arithmetic.{alike, arithmetic}
 use Rattle.rows.specs.Standing.{upFrom}
 use Rattle.rewriting.specs.Generated.{digitsOnto, generated}
 use Rattle.rewriting.specs.Outlay.{nothing, startAt}
@@ -386,8 +389,14 @@ cheap =
     fits nothing (spentIn (extractFromPlan functions (filter (two 1 E spot) log) (startAt first)))
     && fits nothing (spentIn (push functions (projection (alias (kindOf clipEvent) (named (codes "k")) ∷ []) leftJoin) (startAt first)))
 
+-- an overflowing sum is null, and 50 frames are added to 2
+unfoldable pub planEight : Bool
+planEight =
+    isNullValue (arithmetic 1 (wholeValue (pos 9223372036854775807) ∷ wholeValue (pos 1) ∷ []))
+    && alike (arithmetic 1 (wholeValue (pos 2) ∷ wholeValue (pos 50) ∷ [])) (wholeValue (pos 52))
+
 unfoldable pub workedPlansHold : Bool
 workedPlansHold =
     every (λ t. t) (
-    planOne ∷ planTwo ∷ planThree ∷ planFour ∷ planFive ∷ planSix ∷ planSeven ∷ noNumber ∷ twoLimits ∷ renamed ∷ overUnion ∷ bothSides ∷ byPlaceTotal ∷ ambiguous ∷ deeper ∷ takenName ∷ throughRecovery ∷ trialNumber ∷ cheap ∷ []
+    planOne ∷ planTwo ∷ planThree ∷ planFour ∷ planFive ∷ planSix ∷ planSeven ∷ planEight ∷ noNumber ∷ twoLimits ∷ renamed ∷ overUnion ∷ bothSides ∷ byPlaceTotal ∷ ambiguous ∷ deeper ∷ takenName ∷ throughRecovery ∷ trialNumber ∷ cheap ∷ []
     )
