@@ -10,6 +10,8 @@ mod limited;
 #[cfg(test)]
 mod named;
 #[cfg(test)]
+mod ordered;
+#[cfg(test)]
 mod placed;
 #[cfg(test)]
 mod present;
