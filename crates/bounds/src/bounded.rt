@@ -141,3 +141,18 @@ fn a_union_has_1_to_8_inputs_of_equal_width() -> Result<(), Fail> {
     check_eq(book.union(&[one; 8])?, PlanId(3))?;
     check_eq(book.union(&[two, two])?, PlanId(4))
 }
+
+#[test]
+fn every_kind_and_every_direction_is_taken() -> Result<(), Fail> {
+    let mut book = opened()?;
+    let by = book.whole(1)?;
+    let t = book.table(b"t", b"a")?;
+    let u = book.table(b"u", b"a")?;
+    for kind in 0..8u8 {
+        let _ = book.join(kind, t, u, &[by])?;
+    }
+    for direction in 0..4u8 {
+        let _ = book.sort(t, &[Key { by, direction }])?;
+    }
+    check(has_counts(&book, 1, 14))
+}

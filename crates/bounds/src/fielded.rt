@@ -1,8 +1,10 @@
 //! Questions 6 and 7: references resolve, and fields can stand together.
+use crate::answers::TOTAL;
 use crate::answers::has_counts;
 use crate::answers::opened;
 use crate::answers::refused_with;
 use crate::answers::unqualified;
+use book::node::Key;
 use plan::fault::FaultDebug;
 use std::test::*;
 use terms::node::PlanId;
@@ -79,4 +81,37 @@ fn a_node_shows_no_field_twice() -> Result<(), Fail> {
     check(has_counts(&book, 0, 3))?;
     check_eq(book.subquery_alias(t, b"s")?, PlanId(3))?;
     check_eq(book.union(&[t, u])?, PlanId(4))
+}
+
+#[test]
+fn keys_and_totals_resolve_too() -> Result<(), Fail> {
+    let mut book = opened()?;
+    let a = book.reference(b"a", unqualified())?;
+    let b = book.reference(b"b", unqualified())?;
+    let sum_a = book.call(TOTAL, &[a])?;
+    let sum_b = book.call(TOTAL, &[b])?;
+    let t = book.table(b"t", b"a")?;
+    check(refused_with(
+        book.sort(
+            t,
+            &[Key {
+                by: b,
+                direction: 0,
+            }],
+        ),
+        6,
+    ))?;
+    check(refused_with(book.aggregate(t, &[a], &[sum_b]), 6))?;
+    check(has_counts(&book, 4, 1))?;
+    check_eq(
+        book.sort(
+            t,
+            &[Key {
+                by: a,
+                direction: 0,
+            }],
+        )?,
+        PlanId(1),
+    )?;
+    check_eq(book.aggregate(t, &[a], &[sum_a])?, PlanId(2))
 }

@@ -137,3 +137,18 @@ fn the_name_of_a_function_is_good_and_not_prefixed() -> Result<(), Fail> {
     check_eq(open.call(0, &[])?, ExprId(0))?;
     check_eq(open.call(1, &[])?, ExprId(1))
 }
+
+#[test]
+fn new_names_of_what_is_there_are_good() -> Result<(), Fail> {
+    let mut book = opened()?;
+    let e = book.null()?;
+    let t = book.table(b"t", b"a")?;
+    check(refused_with(book.alias(e, b"", unqualified()), 2))?;
+    check(refused_with(book.alias(e, b"a,b", unqualified()), 2))?;
+    check(refused_with(book.alias(e, b"a", Some(b"")), 2))?;
+    check(refused_with(book.subquery_alias(t, b""), 2))?;
+    check(refused_with(book.subquery_alias(t, b"s\n"), 2))?;
+    check(has_counts(&book, 1, 1))?;
+    check_eq(book.alias(e, b"a", Some(b"b"))?, ExprId(1))?;
+    check_eq(book.subquery_alias(t, b"s")?, PlanId(1))
+}
