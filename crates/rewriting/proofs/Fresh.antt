@@ -14,7 +14,7 @@ use Rattle.std.specs.shelf.Text.{sameBytes}
 use Rattle.plan.specs.Names.{Name, digit, digits, goodName, mostNumber, numberOf, numbered, plain, plainByte, readOn}
 use Rattle.rows.proofs.Finds.{name-eq}
 use Rattle.rewriting.specs.Fresh.{GeneratedIsGood, GeneratedIsNew}
-use Rattle.rewriting.specs.Generated.{digitsOnto, generated, highest}
+use Rattle.rewriting.specs.Generated.{bookNames, digitsOnto, generated, highest, nextNumber}
 
 pub le-yes : (m n : ℕ) → m ≤ n → T (leb m n)
 le-yes m n h = go (leb m n) (λ t. nleb→lt m n t)
@@ -87,8 +87,13 @@ unfolding highest
 highest-above base [] = tt
 highest-above base (x ∷ xs) = (let h = highest-base (max base (numberOf x)) xs in omega arith, highest-above (max base (numberOf x)) xs)
 
+-- a name above the numbers of some names is none of them
+pub above-differs : (base k : ℕ) (names : List Name) → highest base names < k → k ≤ mostNumber → All (λ x. sameBytes (generated k) x ≡ false) names
+above-differs base k names l h = all-weaker _ _ (λ x p. lower-differs k x h (omega arith)) names (highest-above base names)
+
 pub generated-is-new : GeneratedIsNew
-generated-is-new base k names l h = all-weaker _ _ (λ x p. lower-differs k x h (omega arith)) names (highest-above base names)
+unfolding nextNumber
+generated-is-new m k l h = above-differs 99999999 k (bookNames m) l h
 
 good-generated : (k : ℕ) → k ≤ mostNumber → T (goodName (generated k))
 unfolding generated

@@ -46,7 +46,7 @@ pub fn extract_leaves_nothing() -> u8
     0
 }
 
-/// A generated alias is none of the names whose numbers are lower.
+/// A generated alias is no name and no text literal of the book.
 pub fn generated_is_new() -> u8
     ensures { λ _. ⌜ GeneratedIsNew ⌝ }
 {
