@@ -50,7 +50,7 @@ madeIf (Some q) stage level p n = refused (fault q stage level) n
 unfoldable pub made : Functions → Stage → ℕ → Plan → Tally → Outcome
 made F stage level p n = madeIf (firstNo (nodeAsked F p)) stage level p (charged (nodeSpace F p) n)
 
--- an expression over a Projection's fields as one over its input's: for each reference what is behind the field that it resolves to, less one alias
+-- replace_cols_by_name with build_projection_replace_map: an expression over a Projection's fields as one over its input's, for each reference what is behind the field that it resolves to, less one alias
 unfoldable mutual
   pub replaceCols : Functions → List Expr → Expr → Expr
   replaceCols F es (literal v) = literal v

@@ -173,6 +173,7 @@ placeIf w p (d ∷ ds) cs level n = w .place (d ∷ ds) cs level n
 unfoldable pub sideAllows : Functions → Bool → List Pair → Bool
 sideAllows F padded ps = not padded || every (λ p. nullKeeping F (p .0)) ps
 
+-- route_to_inputs at a Join: each pair and column goes to the one input that owns it
 unfoldable pub intoJoin : Functions → JoinKind → List Expr → Plan → Plan → Work → Work → Into
 intoJoin F k es l r wl wr ps cs whole level n =
     let own = findOwningInput (fieldsOf F l) (fieldsOf F r) in
@@ -184,7 +185,7 @@ intoJoin F k es l r wl wr ps cs whole level n =
     (λ x m. andThen (placeIf wr r pr (keep (λ c. isTwo (own (reference c))) cs) level m) (λ y o. made F Rebuilt level (join k es x y) o)) in
     cond fine go (noChange n)
 
--- only extracted aliases and references
+-- is_pure_extraction_projection, of one expression: only extracted aliases and references
 unfoldable pub isPure : Expr → Bool
 isPure (literal v) = false
 isPure (reference r) = true
