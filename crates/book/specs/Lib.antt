@@ -1,2 +1,11 @@
+pub mod Stored
+pub mod Holding
+pub mod Reading
+pub mod Making
+pub mod Placing
+pub mod Listing
+pub mod Answering
+pub mod Drafting
 pub mod Declaration
-pub mod Opened
+pub mod Looking
+pub mod Keys

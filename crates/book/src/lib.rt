@@ -1,3 +1,5 @@
-//! Books of query plans: functions are declared, the book is opened, and then come its calls.
+//! Plans in fixed tables, and the calls that build them.
 pub mod declaration;
-pub mod opened;
+pub mod node;
+pub mod placing;
+pub mod tables;

@@ -2,7 +2,6 @@
 --     Call, Answer      a call as a value; what it answers
 --     asked m c      the questions 1 to 8 of the call c in the book m, with their answers
 --     new_exprs m c, new_plans m c      the trees that it adds
---     new_inputs c      the inputs of the node that it adds
 --     outlay m c      the places that it uses
 --     all_asked m c      all nine questions, with their answers
 --     Answers m c a m'      in the book m, the call c answers a and leaves m'
@@ -52,10 +51,8 @@ pub data Call : Type 0 where
   make_subquery_alias : ℕ → Name → Call
   make_union : List ℕ → Call
 
--- no building call answers that nothing changed
 pub data Answer : Type 0 where
   made : ℕ → Answer
-  unchanged : Answer
   refused : Fault → Answer
 
 -- the parts of a text between its commas, before the rest
@@ -235,22 +232,6 @@ outlay m (make_union is) = made_outlay m (make_union is) (length is) 0
 abbrev pub new_plans : Model → Call → List Node
 new_plans m c = map (λ p. record { tree = p; origin = length m.plans }) (new_trees m c)
 
--- the inputs of the new node
-abbrev pub new_inputs : Call → List (List ℕ)
-new_inputs (make_literal v) = []
-new_inputs (make_reference f) = []
-new_inputs (make_alias e f) = []
-new_inputs (make_call n es) = []
-new_inputs (make_table q ns) = [] ∷ []
-new_inputs (make_projection i es) = (i ∷ []) ∷ []
-new_inputs (make_filter i e) = (i ∷ []) ∷ []
-new_inputs (make_sort i ks) = (i ∷ []) ∷ []
-new_inputs (make_limit i s c) = (i ∷ []) ∷ []
-new_inputs (make_aggregate i gs ts) = (i ∷ []) ∷ []
-new_inputs (make_join k l r cs) = (l ∷ r ∷ []) ∷ []
-new_inputs (make_subquery_alias i n) = (i ∷ []) ∷ []
-new_inputs (make_union is) = is ∷ []
-
 -- the number of what is made
 abbrev pub number_of_new : Model → Call → ℕ
 number_of_new m (make_literal v) = length m.exprs
@@ -278,7 +259,6 @@ pub record Made (m : Model) (c : Call) (r : ℕ) (m' : Model) : Type 0 where
   pub functions : m'.functions ≡ m.functions
   pub exprs : m'.exprs ≡ m.exprs ++ new_exprs m c
   pub plans : m'.plans ≡ m.plans ++ new_plans m c
-  pub inputs : m'.inputs ≡ m.inputs ++ new_inputs c
   pub bytes : List ℕ
   pub text : m'.text ≡ m.text ++ bytes
   pub used : m'.used ≡ plus m.used (outlay m c)
@@ -289,5 +269,4 @@ Refused m c f m' = (first_no (all_asked m c) ≡ Some f.question) × (f ≡ refu
 
 abbrev pub Answers : Model → Call → Answer → Model → Type 0
 Answers m c (made r) m' = Made m c r m'
-Answers m c unchanged m' = ⊥
 Answers m c (refused f) m' = Refused m c f m'

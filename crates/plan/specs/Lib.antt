@@ -11,5 +11,3 @@ pub mod Questions
 pub mod Model
 pub mod Calls
 pub mod Declaring
-pub mod Swapping
-pub mod Tracing

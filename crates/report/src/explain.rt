@@ -1,10 +1,9 @@
 //! A plan as an indented tree, each node with its fields and its origin.
-use book::opened::OpenBook;
-use plan::code::{Direction, JoinKind};
+use book::node::{PlanNode, PlanRecord, Run};
+use book::tables::OpenBook;
 use std::io;
 use std::str::from_utf8;
-use tables::node::{PlanNode, PlanRecord, Run};
-use terms::node::{Entry, ExprId, ExprNode, Literal, PlanId, Qualifier, Span};
+use terms::node::{ExprId, ExprNode, Literal, PlanId, Qualifier, Span};
 
 fn show_word(rt: &HostRuntime, book: &OpenBook, span: Span) -> io::Result<()> {
     match book.word(span) {
@@ -83,7 +82,7 @@ fn show_expr(rt: &HostRuntime, book: &OpenBook, e: ExprId, levels: u32) -> io::R
                 if i > 0 {
                     print!(rt; ", ")?;
                 }
-                if let Ok(Entry::Expression(argument)) = book.entry(Run { first, count }, i) {
+                if let Ok(argument) = book.listed(Run { first, count }, i) {
                     show_expr(rt, book, argument, levels - 1)?;
                 }
             }
@@ -92,26 +91,13 @@ fn show_expr(rt: &HostRuntime, book: &OpenBook, e: ExprId, levels: u32) -> io::R
     }
 }
 
-/// A Sort key as SQL writes it.
-fn show_key(rt: &HostRuntime, book: &OpenBook, e: ExprId, direction: Direction) -> io::Result<()> {
-    show_expr(rt, book, e, 256)?;
-    match direction {
-        Direction::AscendingNullsFirst => print!(rt; " ASC NULLS FIRST"),
-        Direction::AscendingNullsLast => print!(rt; " ASC NULLS LAST"),
-        Direction::DescendingNullsFirst => print!(rt; " DESC NULLS FIRST"),
-        Direction::DescendingNullsLast => print!(rt; " DESC NULLS LAST"),
-    }
-}
-
 fn show_list(rt: &HostRuntime, book: &OpenBook, run: Run) -> io::Result<()> {
     for i in 0..run.count {
         if i > 0 {
             print!(rt; ", ")?;
         }
-        match book.entry(run, i) {
-            Ok(Entry::Expression(e)) => show_expr(rt, book, e, 256)?,
-            Ok(Entry::Key(e, direction)) => show_key(rt, book, e, direction)?,
-            _ => {}
+        if let Ok(e) = book.listed(run, i) {
+            show_expr(rt, book, e, 256)?;
         }
     }
     Ok(())
@@ -123,19 +109,6 @@ fn show_aggregate(rt: &HostRuntime, book: &OpenBook, groups: Run, totals: Run) -
     print!(rt; "], aggr=[")?;
     show_list(rt, book, totals)?;
     print!(rt; "]")
-}
-
-fn join_name(kind: JoinKind) -> &'static str {
-    match kind {
-        JoinKind::Inner => "Inner",
-        JoinKind::Left => "Left",
-        JoinKind::Right => "Right",
-        JoinKind::Full => "Full",
-        JoinKind::LeftSemi => "LeftSemi",
-        JoinKind::LeftAnti => "LeftAnti",
-        JoinKind::RightSemi => "RightSemi",
-        JoinKind::RightAnti => "RightAnti",
-    }
 }
 
 /// What a node does, without its inputs.
@@ -159,8 +132,8 @@ fn show_kind(rt: &HostRuntime, book: &OpenBook, node: PlanNode) -> io::Result<()
         }
         PlanNode::Limit { skip, count, .. } => print!(rt; "Limit: skip={skip}, fetch={count}"),
         PlanNode::Aggregate { groups, totals, .. } => show_aggregate(rt, book, groups, totals),
-        PlanNode::Join { kind, on, .. } => {
-            print!(rt; "{} Join: ", join_name(kind))?;
+        PlanNode::Join { on, .. } => {
+            print!(rt; "Join: ")?;
             show_list(rt, book, on)
         }
         PlanNode::SubqueryAlias { name, .. } => {
@@ -225,8 +198,8 @@ fn show_plan(rt: &HostRuntime, book: &OpenBook, p: PlanId, levels: u32) -> io::R
         }
         PlanNode::Union { inputs } => {
             for i in 0..inputs.count {
-                if let Ok(Entry::Input(p)) = book.entry(inputs, i) {
-                    show_plan(rt, book, p, levels - 1)?;
+                if let Ok(e) = book.listed(inputs, i) {
+                    show_plan(rt, book, PlanId(e.0), levels - 1)?;
                 }
             }
             Ok(())

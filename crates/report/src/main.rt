@@ -1,18 +1,13 @@
-//! Builds a broadcaster's report in a book, and prints each call with its answer, the plan, three refusals, versions of the
-//! report, and its rows over a small log.
+//! Builds a broadcaster's report in a book, and prints each call with its answer, the plan, and three refusals.
 use book::declaration::Book;
-use book::opened::OpenBook;
+use book::tables::OpenBook;
 use explain::explain;
-use rows::show_rows;
 use std::io;
 use telling::{declared, expression, node, unqualified};
 use terms::node::{ExprId, PlanId};
-use versions::{compare, trace, versions};
 
 mod explain;
-mod rows;
 mod telling;
-mod versions;
 
 const EQUAL: u8 = 0;
 
@@ -35,8 +30,8 @@ fn declare(rt: &HostRuntime, book: &mut Book) -> io::Result<()> {
     )?;
     declared(
         rt,
-        "4 missing, 1 argument, rule 2, not strict",
-        book.declare(MISSING, b"missing", 1, 2, false),
+        "4 missing, 1 argument, rule 0, not strict",
+        book.declare(MISSING, b"missing", 1, 0, false),
     )?;
     declared(
         rt,
@@ -107,23 +102,6 @@ fn refusals(rt: &HostRuntime, book: &mut OpenBook, rows: PlanId) -> io::Result<(
     Ok(())
 }
 
-fn show_versions(
-    rt: &HostRuntime,
-    book: &mut OpenBook,
-    report: PlanId,
-    later: PlanId,
-    rows: PlanId,
-) -> io::Result<()> {
-    println!(rt; "")?;
-    let version = versions(rt, book, report, later, rows)?;
-    compare(rt, book, report, version)?;
-    compare(rt, book, report, later)?;
-    trace(rt, book, version, "start")?;
-    trace(rt, book, version, "event")?;
-    println!(rt; "")?;
-    explain(rt, book, version)
-}
-
 fn main(rt: HostRuntime) -> io::Result<()> {
     let mut book = Book::new();
     declare(&rt, &mut book)?;
@@ -135,7 +113,5 @@ fn main(rt: HostRuntime) -> io::Result<()> {
     println!(rt; "")?;
     explain(&rt, &open, report)?;
     println!(rt; "")?;
-    refusals(&rt, &mut open, report)?;
-    show_versions(&rt, &mut open, report, later, rows)?;
-    show_rows(&rt, &open, report)
+    refusals(&rt, &mut open, report)
 }

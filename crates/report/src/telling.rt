@@ -5,7 +5,7 @@ use plan::fault::Fault;
 use std::io;
 use terms::node::{ExprId, PlanId};
 
-pub fn refused(rt: &HostRuntime, f: Fault) -> io::Result<()> {
+fn refused(rt: &HostRuntime, f: Fault) -> io::Result<()> {
     let question = f.question.number();
     let stage = f.stage.number();
     let level = f.level;

@@ -4,16 +4,16 @@ use lib.ListN.{get_or-map}
 use mir.Facts.{and_yes, yes_and}
 use Rattle.std.proofs.ByRecursion.{All-get_or}
 use Rattle.std.specs.List.{AllByRecursion as All}
-use Rattle.plan.specs.Calls.{Call, all_below, asked, below, between, equal_widths, new_inputs, new_trees}
+use Rattle.plan.specs.Calls.{Call, all_below, asked, below, between, equal_widths, new_trees}
 use Rattle.plan.specs.Calls.Call.{make_aggregate, make_alias, make_call, make_filter, make_join, make_limit, make_literal, make_projection, make_reference, make_sort, make_subquery_alias, make_table, make_union}
 use Rattle.plan.specs.Faults.{Asked, first_no}
 use Rattle.plan.specs.Fields.{any, every, resolves}
 use Rattle.plan.specs.Functions.{Functions, is_total}
-use Rattle.plan.specs.Model.{Model, count_of, exprs_in, no_node, plan_in, plans_in, tree_at, trees_of}
+use Rattle.plan.specs.Model.{Model, exprs_in, plan_in, plans_in, trees_of}
 use Rattle.plan.specs.Plans.{Plan, fields_of, further_inputs}
 use Rattle.plan.specs.Questions.{node_asked}
 use Rattle.rows.specs.Standing.{Good, Goods, Passed, wide_all}
-use Rattle.plan.specs.Swapping.{inputs_of, plan_list}
+use Rattle.rewriting.specs.Book.{State, count_of, inputs_of, new_inputs, no_node, plan_list, tree_at}
 
 -- every question was answered yes
 pub all_yes : (qs : List Asked) → first_no qs ≡ None → All (λ a. T a.1) qs
@@ -36,12 +36,12 @@ first-yes (a ∷ qs) rest p = go a.1 p (λ q. first-yes qs rest q)
 pub passed : (F : Functions) (p : Plan) → All (λ a. T a.1) (node_asked F p) → Passed F p
 passed F p h = record { resolves = h.0; lists = h.1.0; limits = h.1.1.0 }
 
-module _ (s : Model) (good : All (λ n. Good s.functions n.tree) s.plans) where
+module _ (s : State) (good : All (λ n. Good s.model.functions n.tree) s.model.plans) where
   abbrev F : Functions
-  F = s.functions
+  F = s.model.functions
 
   abbrev m : Model
-  m = s
+  m = s.model
 
   -- a node by its number
   plan-is : (i : ℕ) → plan_in (trees_of m) i ≡ tree_at s i

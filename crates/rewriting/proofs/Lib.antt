@@ -1,7 +1,6 @@
 pub mod Swaps
 pub mod Equals
 pub mod Carries
-pub mod Columns
 pub mod CarryJoins
 pub mod Walks
 pub mod Made
@@ -15,7 +14,6 @@ pub mod Laws
 pub mod Ring
 pub mod Worked
 pub mod Fresh
-pub mod Numbers
 pub mod Marked
 pub mod Swapping
 pub mod Building

@@ -4,8 +4,7 @@ use lib.Ieee.{Float}
 use Rattle.std.specs.List.{AllByRecursion as All}
 use Rattle.plan.specs.Fields.{resolved, resolves}
 use Rattle.plan.specs.Functions.{Functions}
-use Rattle.plan.specs.Calls.{Answer}
-use Rattle.plan.specs.Model.{Model, opened, tree_at}
+use Rattle.plan.specs.Model.{Space}
 use Rattle.plan.specs.Plans.{Plan, Plans, fields_of}
 use Rattle.plan.specs.Plans.Plan.{aggregate, filter, join, limit, projection, sort, subquery_alias, table, union}
 use Rattle.plan.specs.Plans.Plans.{also, done}
@@ -18,7 +17,7 @@ use Rattle.rows.specs.Rows.{may_mean, rows_of, seek}
 use Rattle.rows.specs.Standing.{Good, Goods, Known, Knowns, Lawful, Means, Passed, Same, at}
 use Rattle.rewriting.proofs.Book.{law}
 use Rattle.rewriting.proofs.Swaps.{same}
-use Rattle.rewriting.specs.Book.{Agree, Answers, Request, Run, Step}
+use Rattle.rewriting.specs.Book.{Agree, Answers, Reply, Request, Run, State, Step, opened, tree_at}
 use Rattle.rewriting.specs.Laws.{Resolved, ResolvedAll}
 use Rattle.rewriting.specs.Reached.{Reached, ReachedHolds}
 use Rattle.rewriting.specs.Worked.{start}
@@ -191,26 +190,26 @@ mutual
   goods-prop F done = unit-prop
   goods-prop F (also i is) = both_prop (good-prop F i) (goods-prop F is)
 
-agree-prop : (s : Model) → IsProp (Agree s)
+agree-prop : (s : State) → IsProp (Agree s)
 agree-prop s p q = λ t. record {
-  good = λ i h. good-prop s.functions (tree_at s i) (p.good i h) (q.good i h) t;
-  same = λ i j h k e. same-prop s.functions (tree_at s i) (tree_at s j) (p.same i j h k e) (q.same i j h k e) t;
-  resolved = λ i h. resolved-prop s.functions (tree_at s i) (p.resolved i h) (q.resolved i h) t;
+  good = λ i h. good-prop s.model.functions (tree_at s i) (p.good i h) (q.good i h) t;
+  same = λ i j h k e. same-prop s.model.functions (tree_at s i) (tree_at s j) (p.same i j h k e) (q.same i j h k e) t;
+  resolved = λ i h. resolved-prop s.model.functions (tree_at s i) (p.resolved i h) (q.resolved i h) t;
 }
 
 -- one more call
-pub run_more : (s t s' : Model) (ss : List Step) (c : Request) (a : Answer) → Run s ss t → Answers t c a s' → Run s (ss ++ (c, a) ∷ []) s'
-run_more s t s' [] c a r x = (s', subst (λ (u : Model). Answers u c a s') r x, refl)
+run_more : (s t s' : State) (ss : List Step) (c : Request) (a : Reply) → Run s ss t → Answers t c a s' → Run s (ss ++ (c, a) ∷ []) s'
+run_more s t s' [] c a r x = (s', subst (λ (u : State). Answers u c a s') r x, refl)
 run_more s t s' (d ∷ ds) c a r x = (r.0, r.1, run_more r.0 t s' ds c a r.2 x)
 
-pub reached-start : (F : Functions) (bytes : List ℕ) → Reached (opened F bytes)
-reached-start F bytes = ∣ (F, bytes, [], refl) ∣₁
+pub reached-start : (F : Functions) (bytes : List ℕ) (used : Space) → Reached (opened F bytes used)
+reached-start F bytes used = ∣ (F, bytes, used, [], refl) ∣₁
 
-pub reached-further : (s s' : Model) (c : Request) (a : Answer) → Reached s → Answers s c a s' → Reached s'
-reached-further s s' c a r x = ∥∥₁_map r (λ t. (t.0, t.1, t.2 ++ (c, a) ∷ [], run_more (opened t.0 t.1) s s' t.2 c a t.3 x))
+pub reached-further : (s s' : State) (c : Request) (a : Reply) → Reached s → Answers s c a s' → Reached s'
+reached-further s s' c a r x = ∥∥₁_map r (λ t. (t.0, t.1, t.2, t.3 ++ (c, a) ∷ [], run_more (opened t.0 t.1 t.2) s s' t.3 c a t.4 x))
 
-pub reached-agree : (s : Model) → Reached s → Agree s
-reached-agree s r = ∥∥₁_elim r (agree-prop s) (λ t. law.agree t.0 t.1 t.2 s t.3)
+pub reached-agree : (s : State) → Reached s → Agree s
+reached-agree s r = ∥∥₁_elim r (agree-prop s) (λ t. law.agree t.0 t.1 t.2 t.3 s t.4)
 
 pub reached-holds : ReachedHolds
 reached-holds = record { start = reached-start; further = reached-further; agree = reached-agree }

@@ -3,14 +3,13 @@
 --     ReachedHolds      the law holds of every such book, and one more call keeps it so
 use Rattle.std.specs.Prelude.{ℕ, List}
 use Rattle.plan.specs.Functions.{Functions}
-use Rattle.plan.specs.Calls.{Answer}
-use Rattle.plan.specs.Model.{Model, opened}
-use Rattle.rewriting.specs.Book.{Request, Step, Run, Answers, Agree}
+use Rattle.plan.specs.Model.{Space}
+use Rattle.rewriting.specs.Book.{State, Request, Reply, Step, Run, Answers, Agree, opened}
 
-abbrev pub Reached : Model → Type 0
-Reached s = ∥ ((F : Functions) × (text : List ℕ) × (ss : List Step) × Run (opened F text) ss s) ∥₁
+abbrev pub Reached : State → Type 0
+Reached s = ∥ ((F : Functions) × (text : List ℕ) × (used : Space) × (ss : List Step) × Run (opened F text used) ss s) ∥₁
 
 pub record ReachedHolds : Type 0 where
-  pub start : (F : Functions) (text : List ℕ) → Reached (opened F text)
-  pub further : (s s' : Model) (c : Request) (a : Answer) → Reached s → Answers s c a s' → Reached s'
-  pub agree : (s : Model) → Reached s → Agree s
+  pub start : (F : Functions) (text : List ℕ) (used : Space) → Reached (opened F text used)
+  pub further : (s s' : State) (c : Request) (a : Reply) → Reached s → Answers s c a s' → Reached s'
+  pub agree : (s : State) → Reached s → Agree s

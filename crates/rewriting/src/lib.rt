@@ -1,6 +1,6 @@
 //! Extract and push, as functions on trees. Each function stands for what its contract says.
 ghost use Rattle.rewriting.specs.Book.{Law};
-ghost use Rattle.rewriting.specs.Fresh.{GeneratedIsGood, GeneratedIsNew, NumbersStay};
+ghost use Rattle.rewriting.specs.Fresh.{GeneratedIsGood, GeneratedIsNew};
 ghost use Rattle.rewriting.specs.Laws.{ExtractLaw, PushLaw};
 ghost use Rattle.rewriting.specs.Marked.{ExtractLeavesNothing};
 ghost use Rattle.rewriting.specs.Reached.{ReachedHolds};
@@ -55,13 +55,6 @@ pub fn generated_is_new() -> u8
 /// A generated alias is a name that an alias may have, and its number is the one that it was made from.
 pub fn generated_is_good() -> u8
     ensures { GeneratedIsGood }
-{
-    0
-}
-
-/// Extract and push give no number back, whatever they come to: one that a trial took stays taken for the call.
-pub fn numbers_stay() -> u8
-    ensures { NumbersStay }
 {
     0
 }

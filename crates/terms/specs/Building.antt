@@ -18,7 +18,7 @@ use Rattle.terms.specs.declared.node.Entry.{Entry}
 use Rattle.terms.specs.declared.node.ExprId.{ExprId}
 
 abbrev pub bare : View → Model
-bare v = record { functions = v.functions; exprs = v.trees; plans = []; inputs = []; text = v.bytes; used = space 0 0 0 0 0 }
+bare v = record { functions = v.functions; exprs = v.trees; plans = []; text = v.bytes; used = space 0 0 0 0 0 }
 
 abbrev pub roomy : View → Space → Bool
 roomy v s = nat_le (length v.trees + s.exprs) 1024 && (nat_le (length v.entries + s.entries) 2048 && nat_le (length v.bytes + s.bytes) 16384)

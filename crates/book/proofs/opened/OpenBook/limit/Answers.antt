@@ -1,6 +1,0 @@
-use Rattle.rewriting.specs.Book.Request.{build}
-use Rattle.rewriting.proofs.Reached.{reached-further}
-use Rattle.book.proofs.opened.OpenBook.limit.Goals as goal
-
-pub invariant_of-self : goal.invariant_of-self
-invariant_of-self c = (reached-further _ _ (build _) _ c.args.self.now.reached c.limit.ensures, tt)

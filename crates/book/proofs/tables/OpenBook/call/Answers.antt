@@ -1,0 +1,20 @@
+use Rattle.std.proofs.Common.{refl}
+use Rattle.table.specs.Contents.{contents}
+use Rattle.plan.specs.Calls.Call.{make_alias, make_call, make_literal, make_reference}
+use Rattle.plan.specs.Terms.Literal.{null as null_literal, real as real_literal, text as text_literal, truth as truth_literal, whole as whole_literal}
+use Rattle.terms.specs.Building.{given_field}
+use Rattle.terms.specs.Views.{view_of, numbers_of}
+use Rattle.book.specs.Holding.{view_in}
+use Rattle.book.proofs.Answers.{SameCall, expr-answers, facts-answered}
+use Rattle.book.proofs.Held.{facts-in}
+use Rattle.book.proofs.tables.OpenBook.call.Goals as goal
+
+pub invariant_of-self : goal.invariant_of-self
+invariant_of-self c =
+    let t = c.args.self.now in
+    let k = facts-answered (view_in t) (view_of c.call.new.self) (make_call c.args.function (numbers_of c.args.arguments.now)) c.call.result (contents t.fields) (contents t.plans) c.call.ensures (facts-in t) in
+    (k.are-stored, (k.are-sound, (k.are-fielded, (k.have-sizes, tt))))
+
+pub returns : goal.returns
+returns c =
+    expr-answers c.args.self.now (view_of c.call.new.self) (make_call c.args.function (numbers_of c.args.arguments.now)) (record { asks = refl; makes = refl; costs = refl; no-plan = refl; number = refl; expressions = refl; plans = refl; fields = refl }) c.call.result c.call.ensures

@@ -1,0 +1,10 @@
+use Rattle.std.proofs.Common.{eqb, length, sym, ap, ◌∙◌, ap₂}
+use Rattle.std.proofs.lemmas.List.{length-map}
+use Rattle.terms.specs.Spans.{stored_field}
+use Rattle.book.specs.Holding.{view_in}
+use Rattle.book.proofs.tables.OpenBook.same_width.Goals as goal
+
+pub returns : goal.returns
+returns c =
+    let f = stored_field (view_in c.args.self.now).bytes in
+    ap₂ eqb (sym (length-map c.fields-of.result.now f) ∙ ap length c.fields-of.ensures.value) (sym (length-map c.fields-of-2.result.now f) ∙ ap length c.fields-of-2.ensures.value)

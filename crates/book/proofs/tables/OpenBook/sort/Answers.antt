@@ -1,0 +1,44 @@
+use Rattle.std.proofs.Common.{not, ◌&&◌, leb, length, sym, refl, ap, ◌∙◌, arith}
+use Rattle.std.proofs.lemmas.List.{length-map}
+use Rattle.std.proofs.lemmas.Bool.{and_parts, leb-true}
+use Rattle.plan.specs.Calls.Call.{make_sort}
+use Rattle.plan.specs.Calls.{below, all_below, between}
+use Rattle.book.specs.Holding.{view_in, plan_count}
+use Rattle.book.specs.Keys.{key_pair, key_pairs, sort_key}
+use Rattle.book.specs.Making.{key_numbers}
+use Rattle.book.specs.declared.node.NewNode.TheVariants.{Sort}
+use Rattle.book.proofs.NodeAnswers.{plan-answers}
+use Rattle.book.proofs.SortFacts.{sorted-numbers, sort-makes, sort_asked}
+use Rattle.book.proofs.tables.OpenBook.sort.Goals as goal
+
+pub any-key-total-requires : goal.any-key-total-requires
+any-key-total-requires c =
+    (and_parts (below (plan_count c.args.self.now) c.args.input.0) _ (sym c.has-sorted.ensures ∙ c.in-ok-ask.ensures)).1
+
+pub sort-keys-given-requires : goal.sort-keys-given-requires
+sort-keys-given-requires c =
+    let ks = c.args.keys.now in
+    let few = (and_parts (between 1 16 (length (key_pairs ks))) _ (sym c.are-keys.ensures ∙ c.in-ok-ask-2.ensures)).0 in
+    omega (arith, length-map ks key_pair, leb-true _ _ (and_parts (leb 1 (length (key_pairs ks))) _ few).1)
+
+pub make-requires : goal.make-requires
+make-requires c =
+    let t = c.args.self.now in
+    let ks = c.args.keys.now in
+    let few = (and_parts (between 1 16 (length (key_pairs ks))) _ (sym c.are-keys.ensures ∙ c.in-ok-ask-2.ensures)).0 in
+    let e = c.as-slice.ensures ∙ c.sort-keys-given.ensures in
+    record {
+      present = ap (λ l. below (plan_count t) c.args.input.0 && all_below (length (view_in t).trees) l) (ap key_numbers e ∙ sorted-numbers ks) ∙ sym c.has-sorted.ensures ∙ c.in-ok-ask.ensures;
+      bounded = ap (λ n. leb n 16) (ap length e ∙ length-map ks sort_key ∙ sym (length-map ks key_pair)) ∙ (and_parts (leb 1 (length (key_pairs ks))) _ few).1;
+      named = refl;
+    }
+
+pub returns : goal.returns
+returns c =
+    let t = c.args.self.now in
+    let ks = c.args.keys.now in
+    plan-answers t (Sort c.args.input c.as-slice.result) (make_sort c.args.input.0 (key_pairs ks)) (sort_asked t c.args.input ks)
+    (sort-makes t c.args.input c.as-slice.result ks (c.as-slice.ensures ∙ c.sort-keys-given.ensures))
+    (sym c.has-sorted.ensures ∙ c.in-ok-ask.ensures, (sym c.are-keys.ensures ∙ c.in-ok-ask-2.ensures, (ap not (sym c.any-key-total.ensures) ∙ c.in-ok-ask-3.ensures, tt)))
+    c.make.result _
+    c.make.ensures

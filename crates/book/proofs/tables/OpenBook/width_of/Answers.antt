@@ -1,0 +1,12 @@
+use Rattle.std.proofs.Common.{length, sym, ap, ◌∙◌}
+use Rattle.std.proofs.lemmas.List.{length-map}
+use Rattle.terms.specs.Spans.{stored_field}
+use Rattle.book.specs.Holding.{view_in}
+use Rattle.book.proofs.tables.OpenBook.width_of.Goals as goal
+
+pub returns : goal.returns
+returns c =
+    record {
+      value = sym (length-map c.fields-of.result.now (stored_field (view_in c.args.self.now).bytes)) ∙ ap length c.fields-of.ensures.value;
+      bound = c.fields-of.ensures.few;
+    }

@@ -1,3 +1,0 @@
-pub mod NodeAnswers
-pub mod WiderFacts
-pub mod SortFacts

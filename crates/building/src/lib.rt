@@ -1,3 +1,0 @@
-//! The calls that make a node: each asks the questions of its own, and then the tables make the node.
-pub mod nodes;
-pub mod wider;

@@ -1,3 +1,0 @@
-//! Calls of an open book as values, and lists of them performed one after the other.
-pub mod act;
-pub mod performing;
