@@ -1,6 +1,6 @@
 -- Tests of names, byte by byte.
-use Rattle.std.proofs.Common.{◌≡◌, ℕ, ◌+◌, ◌-◌, ◌*◌, ◌<◌, ◌≤◌, min, Bool, true, false, cond, ◌&&◌, ltb, leb, List, [], ◌∷◌, ◌++◌, length, get_or, take, drop, Decides, sym, refl, ap, ◌∙◌, ⊎_elim, arith}
-use Rattle.std.specs.Cmp.Lexicographic.{Matches}
+use Rattle.std.proofs.Common.{◌≡◌, ℕ, ◌+◌, ◌-◌, ◌*◌, ◌<◌, ◌≤◌, min, nat_eq, Bool, true, false, cond, ◌&&◌, ltb, leb, List, [], ◌∷◌, ◌++◌, length, get_or, take, drop, Decides, sym, refl, ap, ◌∙◌, ⊎_elim, arith}
+use Rattle.std.specs.Cmp.Lexicographic.{pointwise, bytes_decides}
 use Rattle.std.specs.Str.{bytes_eq}
 use Rattle.std.proofs.lemmas.Slice.Eq.{slice_eq-Decides, bytes_eq-Decides}
 use Rattle.std.proofs.lemmas.List.{at_drop_more, drop_all}
@@ -8,16 +8,13 @@ use Rattle.std.proofs.lemmas.Bool.{cases_lt, lt-ltb, ltb-false, le-leb, lt-leb, 
 use Rattle.std.proofs.lemmas.Bool.Decides.{same_from_decides, Decides-eqb}
 use Rattle.plan.specs.Names.{plain, plain_byte, digit, digits, read_on, prefix, number_of, good_name}
 
-abbrev pub EqualBytes : List ℕ → List ℕ → Bool → Type 0
-EqualBytes = Matches (λ (a b : ℕ) (t : Bool). Decides t (a ≡ b))
+pub matched : (xs ys : List ℕ) (r : Bool) → r ≡ pointwise nat_eq xs ys → r ≡ bytes_eq xs ys
+matched xs ys r m = m ∙ same_from_decides (pointwise nat_eq xs ys) (bytes_eq xs ys) (bytes_decides xs ys) (bytes_eq-Decides xs ys)
 
-pub matched : (xs ys : List ℕ) (r : Bool) → EqualBytes xs ys r → r ≡ bytes_eq xs ys
-matched xs ys r m = same_from_decides r (bytes_eq xs ys) (slice_eq-Decides Decides-eqb xs ys r m) (bytes_eq-Decides xs ys)
-
-pub matched-back : (xs ys : List ℕ) (r : Bool) → EqualBytes xs ys r → r ≡ bytes_eq ys xs
+pub matched-back : (xs ys : List ℕ) (r : Bool) → r ≡ pointwise nat_eq xs ys → r ≡ bytes_eq ys xs
 matched-back xs ys r m =
-    let d = slice_eq-Decides Decides-eqb xs ys r m in
-    same_from_decides r (bytes_eq ys xs) (λ t. sym (d.0 t), λ e. d.1 (sym e)) (bytes_eq-Decides ys xs)
+    let d = bytes_decides xs ys in
+    m ∙ same_from_decides (pointwise nat_eq xs ys) (bytes_eq ys xs) (λ t. sym (d.0 t), λ e. d.1 (sym e)) (bytes_eq-Decides ys xs)
 
 module _ (xs : List ℕ) (i : ℕ) (h : i < length xs) where
   pub plain-pass : plain_byte (get_or xs i 0) ≡ true → plain (drop i xs) ≡ plain (drop (i + 1) xs)

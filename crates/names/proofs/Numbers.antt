@@ -51,3 +51,7 @@ onto-long (suc k) n xs = omega (arith, onto-long k (n / 16) (hex_digit (n % 16) 
 
 pub hex-long : (k n : ℕ) → length (hex_onto k n []) ≡ k
 hex-long k n = omega (arith, onto-long k n [])
+
+-- one digit less, as a rule
+pub shorter : (n : ℕ) → 10 ≤ n → n < 2 ^ 64 → length (decimal (n / 10)) + 1 ≡ length (decimal n)
+shorter n h f = omega (arith, more-long n h f)

@@ -103,14 +103,26 @@ pub fn signed_len(z: i64) -> usize
     if z < 0 { long + 1 } else { long }
 }
 
+/// A number of several digits without its last one.
+#[tactic(auto, using(crate::proofs::Numbers::shorter))]
+fn tenth(n: u64) -> u64
+    requires { 10 ≤ n }
+    ensures value { result ≡ n / 10 }
+    ensures shorter { length (decimal result) + 1 ≡ length (decimal n) }
+{
+    n / 10
+}
+
 fn write_decimal<const N: usize>(out: &mut Table<u8, N>, n: u64)
     requires { length (contents out.old) + length (decimal n) ≤ N }
     ensures { contents out.new ≡ contents out.old ++ decimal n }
 {
-    if n >= 10 {
-        write_decimal(out, n / 10);
+    if n < 10 {
+        out.push(b'0' + n as u8);
+    } else {
+        write_decimal(out, tenth(n));
+        out.push(b'0' + (n % 10) as u8);
     }
-    out.push(b'0' + (n % 10) as u8);
 }
 
 /// Writes a number in decimal digits, a negative one after `-`.

@@ -9,5 +9,5 @@ pub returns-else-n-lt10 : goal.returns-else-n-lt10
 returns-else-n-lt10 t c =
     let f : c.args.n < 2 ^ 64 = search rules in
     let e = more-long c.args.n c.if-n-lt10.false f in
-    let v = c.decimal-len.ensures.value in
+    let v = c.decimal_len.ensures.value in
     record { value = omega (arith, e, v); bound = omega (arith, e, v, at-most-20 c.args.n f) }

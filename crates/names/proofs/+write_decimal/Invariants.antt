@@ -1,4 +1,4 @@
 use Rattle.names.proofs.+write_decimal.Given as goal
 
-abbrev pub decreases-write-decimal : goal.decreases-write-decimal
-decreases-write-decimal g l = l.n
+abbrev pub decreases-write_decimal : goal.decreases-write_decimal
+decreases-write_decimal g l = l.n

@@ -4,4 +4,4 @@ use Rattle.plan.specs.Names.{prefix}
 use Rattle.names.proofs.is_prefixed.Goals as goal
 
 pub returns : goal.returns
-returns c = matched-back prefix (take 22 c.args.name.now) _ c.starts-with.ensures.value
+returns c = matched-back prefix (take 22 c.args.name.now) _ c.starts_with.ensures.value

@@ -18,8 +18,8 @@ returns-then-end-text c =
     let ps = contents c.loop-start.out in
     let qs = contents c.push.new.self in
     let s = c.loop-start.start in
-    let r = c.part-end-end.result in
-    let first = c.part-end-end.ensures.first ∙ ap (λ ns. part xs s (r - s) ∷ ns) (after_last xs r (omega arith)) in
+    let r = c.part_end-end.result in
+    let first = c.part_end-end.ensures.first ∙ ap (λ ns. part xs s (r - s) ∷ ns) (after_last xs r (omega arith)) in
     record {
       pieces = sym (append-nil _) ∙ pieces_more xs ps qs _ c.push.ensures (parts (drop s xs)) [] c.loop-start.invariant.1 first;
       inside = inside-more xs ps qs _ c.push.ensures c.loop-start.invariant.2 (le-leb _ _ (omega arith));
@@ -31,8 +31,8 @@ loop-start-preserved c =
     let ps = contents c.loop-start.out in
     let qs = contents c.push.new.self in
     let s = c.loop-start.start in
-    let r = c.part-end-end.result in
-    let first = c.part-end-end.ensures.first ∙ ap (λ ns. part xs s (r - s) ∷ ns) (after-comma xs r (omega arith)) in (
+    let r = c.part_end-end.result in
+    let first = c.part_end-end.ensures.first ∙ ap (λ ns. part xs s (r - s) ∷ ns) (after-comma xs r (omega arith)) in (
       omega arith,
       pieces_more xs ps qs _ c.push.ensures (parts (drop s xs)) _ c.loop-start.invariant.1 first,
       inside-more xs ps qs _ c.push.ensures c.loop-start.invariant.2 (le-leb _ _ (omega arith)),
