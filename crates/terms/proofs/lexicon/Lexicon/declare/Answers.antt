@@ -6,14 +6,14 @@ use Rattle.plan.specs.Names.{good_name, prefixed}
 use Rattle.terms.specs.Lexicon.{functions_of}
 use Rattle.terms.proofs.lexicon.Lexicon.declare.Goals as goal
 
-pub set-function-requires : goal.set-function-requires
-set-function-requires c =
+pub set_function-requires : goal.set_function-requires
+set_function-requires c =
     let n = c.args.number in
     let free = ltb n 64 && not (is_some (function_at (functions_of c.args.self.now) n)) in
     let few = leb c.args.arity 4 in
     let known = is_some (rule_of c.args.rule) in
-    let p = and_parts free (few && known) (sym c.is-bounded.ensures ∙ c.in-ok-ask-2.ensures) in
-    let named = sym c.names-function.ensures ∙ c.in-ok-ask.ensures in
+    let p = and_parts free (few && known) (sym c.is_bounded.ensures ∙ c.in_ok-ask-2.ensures) in
+    let named = sym c.names_function.ensures ∙ c.in_ok-ask.ensures in
     record {
       number = ltb-true n 64 (and_parts (ltb n 64) _ p.0).0;
       inside = c.write.ensures.inside;

@@ -12,7 +12,7 @@ invariant_of-self c =
     let x = c.args.self.now in
     let d = Some c.args.function in
     let n = c.args.number in
-    (length-set x.functions n d ∙ x.long, (every_set (declaration_in (text_of x)) x.functions n d x.inside c.requires.inside, (ap (every good_function) (map-set (function_in (text_of x)) x.functions n d) ∙ every_set good_function (functions_of x) n (function_in (text_of x) d) x.good c.requires.good, tt)))
+    record { long = length-set x.functions n d ∙ x.long; inside = every_set (declaration_in (text_of x)) x.functions n d x.inside c.requires.inside; good = ap (every good_function) (map-set (function_in (text_of x)) x.functions n d) ∙ every_set good_function (functions_of x) n (function_in (text_of x) d) x.good c.requires.good }
 
 pub returns : goal.returns
 returns c =

@@ -13,7 +13,7 @@ invariant_of-self c =
     let x = c.args.self.now in
     let g = functions-grow (contents x.text) c.args.bytes.now x.functions x.inside in
     let e = c.extend.ensures in
-    (x.long, (ap (λ b. every (declaration_in b) x.functions) e ∙ g.1, (ap (λ b. every good_function (functions_in b x.functions)) e ∙ ap (every good_function) g.0 ∙ x.good, tt)))
+    record { long = x.long; inside = ap (λ b. every (declaration_in b) x.functions) e ∙ g.1; good = ap (λ b. every good_function (functions_in b x.functions)) e ∙ ap (every good_function) g.0 ∙ x.good }
 
 pub returns : goal.returns
 returns c =

@@ -26,12 +26,12 @@ long s e first count a = length-map (numbers_in (view_of s).entries first count)
 pub extend-requires-in-Call : goal.extend-requires-in-Call
 extend-requires-in-Call t c =
     let s = c.args.self.now in
-    (lit< tt, omega (arith, ap length c.name-of.ensures, call_fits (view_of s).functions c.in-Call.function (args s c.in-Call.first c.in-Call.count) _ c.in-Call.ensures.tree _ c.requires.room))
+    (lit< tt, omega (arith, ap length c.name_of.ensures, call_fits (view_of s).functions c.in-Call.function (args s c.in-Call.first c.in-Call.count) _ c.in-Call.ensures.tree _ c.requires.room))
 
 pub push-requires : goal.push-requires
 push-requires t c =
     let s = c.args.self.now in
-    (lit< tt, omega (arith, ap length c.name-of.ensures, ap length c.extend-in-Call.ensures, length-append (contents c.args.out.now) c.name-of.result.now, call_fits (view_of s).functions c.in-Call.function (args s c.in-Call.first c.in-Call.count) _ c.in-Call.ensures.tree _ c.requires.room))
+    (lit< tt, omega (arith, ap length c.name_of.ensures, ap length c.extend-in-Call.ensures, length-append (contents c.args.out.now) c.name_of.result.now, call_fits (view_of s).functions c.in-Call.function (args s c.in-Call.first c.in-Call.count) _ c.in-Call.ensures.tree _ c.requires.room))
 
 pub part-requires : goal.part-requires
 part-requires t c =
@@ -41,7 +41,7 @@ part-requires t c =
     let a = called (view_of s).bytes (view_of s).entries c.args.e.0 c.in-Call.function c.in-Call.first c.in-Call.count c.in-Call.ensures.inside in
     let i = c.loop-i.i in
     let lt : i < length ts = omega (arith, long s c.args.e.0 c.in-Call.first c.in-Call.count a, c.loop-i-test.true) in
-    omega (arith, call_fits fs c.in-Call.function ts _ c.in-Call.ensures.tree _ c.requires.room, opened-length fs c.in-Call.function ts _ c.in-Call.ensures.tree _ c.requires.room _ _ _ c.name-of.ensures c.extend-in-Call.ensures c.push.ensures, ap length c.loop-i.invariant, length-append (contents c.push.new.self) (rendered_all fs (arguments (take i ts))), argument-fits fs ts i no_expr lt)
+    omega (arith, call_fits fs c.in-Call.function ts _ c.in-Call.ensures.tree _ c.requires.room, opened-length fs c.in-Call.function ts _ c.in-Call.ensures.tree _ c.requires.room _ _ _ c.name_of.ensures c.extend-in-Call.ensures c.push.ensures, ap length c.loop-i.invariant, length-append (contents c.push.new.self) (rendered_all fs (arguments (take i ts))), argument-fits fs ts i no_expr lt)
 
 pub render-requires : goal.render-requires
 render-requires t c =
@@ -53,7 +53,7 @@ render-requires t c =
     let l = a.lower i c.loop-i-test.true in
     let lt : i < length ts = omega (arith, long s c.args.e.0 c.in-Call.first c.in-Call.count a, c.loop-i-test.true) in
     let x = argument s c.args.e.0 c.in-Call.first c.in-Call.count i c.listed.result.0 a c.loop-i-test.true c.listed.ensures in
-    (omega (arith, l, c.listed.ensures, c.decreases), (omega (arith, l, c.listed.ensures, c.requires.present), omega (arith, call_fits fs c.in-Call.function ts _ c.in-Call.ensures.tree _ c.requires.room, opened-length fs c.in-Call.function ts _ c.in-Call.ensures.tree _ c.requires.room _ _ _ c.name-of.ensures c.extend-in-Call.ensures c.push.ensures, ap length c.loop-i.invariant, length-append (contents c.push.new.self) (rendered_all fs (arguments (take i ts))), argument-fits fs ts i no_expr lt, ap (width_of fs) x, ap length c.part.ensures, length-append (contents c.loop-i.out) (gap i))))
+    (omega (arith, l, c.listed.ensures, c.decreases), (omega (arith, l, c.listed.ensures, c.requires.present), omega (arith, call_fits fs c.in-Call.function ts _ c.in-Call.ensures.tree _ c.requires.room, opened-length fs c.in-Call.function ts _ c.in-Call.ensures.tree _ c.requires.room _ _ _ c.name_of.ensures c.extend-in-Call.ensures c.push.ensures, ap length c.loop-i.invariant, length-append (contents c.push.new.self) (rendered_all fs (arguments (take i ts))), argument-fits fs ts i no_expr lt, ap (width_of fs) x, ap length c.part.ensures, length-append (contents c.loop-i.out) (gap i))))
 
 pub loop-i-init : goal.loop-i-init
 loop-i-init t c = sym (append-nil (contents c.push.new.self))
@@ -78,7 +78,7 @@ push-requires-in-Call t c =
     let s = c.args.self.now in
     let fs = (view_of s).functions in
     let ts = args s c.in-Call.first c.in-Call.count in
-    (lit< tt, omega (arith, call_fits fs c.in-Call.function ts _ c.in-Call.ensures.tree _ c.requires.room, opened-length fs c.in-Call.function ts _ c.in-Call.ensures.tree _ c.requires.room _ _ _ c.name-of.ensures c.extend-in-Call.ensures c.push.ensures, ap length c.loop-i.invariant, length-append (contents c.push.new.self) (rendered_all fs (arguments (take c.loop-i.i ts))), all-le fs ts c.loop-i.i))
+    (lit< tt, omega (arith, call_fits fs c.in-Call.function ts _ c.in-Call.ensures.tree _ c.requires.room, opened-length fs c.in-Call.function ts _ c.in-Call.ensures.tree _ c.requires.room _ _ _ c.name_of.ensures c.extend-in-Call.ensures c.push.ensures, ap length c.loop-i.invariant, length-append (contents c.push.new.self) (rendered_all fs (arguments (take c.loop-i.i ts))), all-le fs ts c.loop-i.i))
 
 pub returns-after-loop-i : goal.returns-after-loop-i
 returns-after-loop-i t c =
@@ -87,4 +87,4 @@ returns-after-loop-i t c =
     let ts = args s c.in-Call.first c.in-Call.count in
     let a = called (view_of s).bytes (view_of s).entries c.args.e.0 c.in-Call.function c.in-Call.first c.in-Call.count c.in-Call.ensures.inside in
     let whole = c.loop-i.invariant ∙ ap (λ l. contents c.push.new.self ++ rendered_all fs (arguments l)) (take_all c.loop-i.i ts (omega (arith, long s c.args.e.0 c.in-Call.first c.in-Call.count a, c.loop-i-test.false))) in
-    closed fs c.in-Call.function ts _ c.in-Call.ensures.tree _ c.requires.room _ _ _ _ _ c.name-of.ensures c.extend-in-Call.ensures c.push.ensures whole c.push-in-Call.ensures
+    closed fs c.in-Call.function ts _ c.in-Call.ensures.tree _ c.requires.room _ _ _ _ _ c.name_of.ensures c.extend-in-Call.ensures c.push.ensures whole c.push-in-Call.ensures

@@ -19,7 +19,7 @@ invariant_of-self c =
     let es = contents t.entries in
     let r : ExprRecord = record { node = c.args.node; size = c.args.size; width = c.args.width } in
     let k = facts-pushed (functions_of t.lexicon) bs es (contents t.exprs) _ r c.push.ensures (facts-of t) (subst (λ j. inside_node bs es j c.args.node ≡ true) (counted t) c.requires.inside) c.requires.accepted c.requires.size c.requires.width in
-    (k.is-sound, (k.is-accepted, (k.has-sizes, (k.has-widths, tt))))
+    record { sound = k.is-sound; accepted = k.is-accepted; sizes = k.has-sizes; widths = k.has-widths }
 
 pub returns : goal.returns
 returns c =

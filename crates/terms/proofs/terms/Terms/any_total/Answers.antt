@@ -18,22 +18,22 @@ use Rattle.terms.proofs.terms.Terms.any_total.Goals as goal
 abbrev zero : ExprId
 zero = record { 0 = 0 }
 
-pub is-total-requires : goal.is-total-requires
-is-total-requires c = one_below (count c.args.self.now) c.args.ids.now c.loop-id.id-index zero c.loop-id-test.true c.requires
+pub is_total-requires : goal.is_total-requires
+is_total-requires c = one_below (count c.args.self.now) c.args.ids.now c.loop-id.id-index zero c.loop-id-test.true c.requires
 
-pub returns-then-is-total : goal.returns-then-is-total
-returns-then-is-total c =
+pub returns-then-is_total : goal.returns-then-is_total
+returns-then-is_total c =
     let v = view_of c.args.self.now in
     let ids = c.args.ids.now in
     let p = any (is_total v.functions) in
-    sym (c.loop-id.invariant ∙ twice-step p (expr_in v.trees) (λ e. e.0) ids c.loop-id.id-index zero c.loop-id-test.true ∙ ap (λ b. b || p (drop (c.loop-id.id-index + 1) (exprs_in v.trees (numbers_of ids)))) (sym c.if-is-total.ensures))
+    sym (c.loop-id.invariant ∙ twice-step p (expr_in v.trees) (λ e. e.0) ids c.loop-id.id-index zero c.loop-id-test.true ∙ ap (λ b. b || p (drop (c.loop-id.id-index + 1) (exprs_in v.trees (numbers_of ids)))) (sym c.if-is_total.ensures))
 
 pub loop-id-preserved : goal.loop-id-preserved
 loop-id-preserved c =
     let v = view_of c.args.self.now in
     let ids = c.args.ids.now in
     let p = any (is_total v.functions) in
-    c.loop-id.invariant ∙ twice-step p (expr_in v.trees) (λ e. e.0) ids c.loop-id.id-index zero c.loop-id-test.true ∙ ap (λ b. b || p (drop (c.loop-id.id-index + 1) (exprs_in v.trees (numbers_of ids)))) (sym c.if-is-total.ensures)
+    c.loop-id.invariant ∙ twice-step p (expr_in v.trees) (λ e. e.0) ids c.loop-id.id-index zero c.loop-id-test.true ∙ ap (λ b. b || p (drop (c.loop-id.id-index + 1) (exprs_in v.trees (numbers_of ids)))) (sym c.if-is_total.ensures)
 
 pub returns : goal.returns
 returns c =

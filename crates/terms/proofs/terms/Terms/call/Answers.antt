@@ -27,37 +27,37 @@ module _ (t : Terms) (f : ℕ) (ids : List ExprId) (x y : Bool) (p : x ≡ (is_s
   few : length ids ≤ 4
   few = omega (arith, few-arguments (view_of t).functions f (length (numbers_of ids)) t.lexicon.good (sym q ∙ qy), length-map ids (λ e. e.0))
 
-pub is-small-call-requires : goal.is-small-call-requires
-is-small-call-requires c =
+pub is_small_call-requires : goal.is_small_call-requires
+is_small_call-requires c =
     let t = c.args.self.now in
     record {
-      present = present t c.args.function c.args.arguments.now _ _ c.can-call.ensures c.in-ok-ask.ensures c.takes.ensures c.in-ok-ask-2.ensures;
-      few = few t c.args.function c.args.arguments.now _ _ c.can-call.ensures c.in-ok-ask.ensures c.takes.ensures c.in-ok-ask-2.ensures;
+      present = present t c.args.function c.args.arguments.now _ _ c.can_call.ensures c.in_ok-ask.ensures c.takes.ensures c.in_ok-ask-2.ensures;
+      few = few t c.args.function c.args.arguments.now _ _ c.can_call.ensures c.in_ok-ask.ensures c.takes.ensures c.in_ok-ask-2.ensures;
     }
 
 pub sizes-size-requires : goal.sizes-size-requires
 sizes-size-requires c =
     let t = c.args.self.now in
     record {
-      present = present t c.args.function c.args.arguments.now _ _ c.can-call.ensures c.in-ok-ask.ensures c.takes.ensures c.in-ok-ask-2.ensures;
-      few = few t c.args.function c.args.arguments.now _ _ c.can-call.ensures c.in-ok-ask.ensures c.takes.ensures c.in-ok-ask-2.ensures;
+      present = present t c.args.function c.args.arguments.now _ _ c.can_call.ensures c.in_ok-ask.ensures c.takes.ensures c.in_ok-ask-2.ensures;
+      few = few t c.args.function c.args.arguments.now _ _ c.can_call.ensures c.in_ok-ask.ensures c.takes.ensures c.in_ok-ask-2.ensures;
     }
 
-pub call-width-width-requires : goal.call-width-width-requires
-call-width-width-requires c =
+pub call_width-width-requires : goal.call_width-width-requires
+call_width-width-requires c =
     let t = c.args.self.now in
     record {
-      present = present t c.args.function c.args.arguments.now _ _ c.can-call.ensures c.in-ok-ask.ensures c.takes.ensures c.in-ok-ask-2.ensures;
-      few = few t c.args.function c.args.arguments.now _ _ c.can-call.ensures c.in-ok-ask.ensures c.takes.ensures c.in-ok-ask-2.ensures;
+      present = present t c.args.function c.args.arguments.now _ _ c.can_call.ensures c.in_ok-ask.ensures c.takes.ensures c.in_ok-ask-2.ensures;
+      few = few t c.args.function c.args.arguments.now _ _ c.can_call.ensures c.in_ok-ask.ensures c.takes.ensures c.in_ok-ask-2.ensures;
     }
 
 pub list-first-requires : goal.list-first-requires
 list-first-requires c =
-    omega (arith, (roomy-parts (view_of c.args.self.now) (space 1 0 (length (numbers_of c.args.arguments.now)) 0 0) c.in-ok-ask-list-room.ensures).1, length-map c.args.arguments.now (λ e. e.0))
+    omega (arith, (roomy-parts (view_of c.args.self.now) (space 1 0 (length (numbers_of c.args.arguments.now)) 0 0) c.in_ok-ask_list_room.ensures).1, length-map c.args.arguments.now (λ e. e.0))
 
 pub overflow_cast-node : goal.overflow_cast-node
 overflow_cast-node c =
-    omega (arith, few c.args.self.now c.args.function c.args.arguments.now _ _ c.can-call.ensures c.in-ok-ask.ensures c.takes.ensures c.in-ok-ask-2.ensures)
+    omega (arith, few c.args.self.now c.args.function c.args.arguments.now _ _ c.can_call.ensures c.in_ok-ask.ensures c.takes.ensures c.in_ok-ask-2.ensures)
 
 pub add-requires : goal.add-requires
 add-requires c =
@@ -67,8 +67,8 @@ add-requires c =
     let f = c.args.function in
     let e = c.list-first.ensures.view in
     let ts = exprs_in v.trees (numbers_of ids) in
-    let r = roomy-parts v (space 1 0 (length (numbers_of ids)) 0 0) c.in-ok-ask-list-room.ensures in
-    let b = (and_parts (is_some (function_at v.functions f)) (all_below (length v.trees) (numbers_of ids)) (sym c.can-call.ensures ∙ c.in-ok-ask.ensures)).1 in
+    let r = roomy-parts v (space 1 0 (length (numbers_of ids)) 0 0) c.in_ok-ask_list_room.ensures in
+    let b = (and_parts (is_some (function_at v.functions f)) (all_below (length v.trees) (numbers_of ids)) (sym c.can_call.ensures ∙ c.in_ok-ask.ensures)).1 in
     let l : w.entries ≡ v.entries ++ map Expression ids = ap (λ x. x.entries) e in
     let n = listed-numbers v.entries w.entries ids c.list-first.result l c.list-first.ensures.first in
     let t = ap₂ (λ us ns. call f (arguments (map (expr_in us) ns))) (same-trees v w _ _ e) n in
@@ -76,10 +76,10 @@ add-requires c =
       room = omega (arith, r.0, same_count v w _ _ e);
       inside = and_from _ _ (listed-inside v.entries w.entries ids c.list-first.result l c.list-first.ensures.first) (ap₂ (λ k ns. all_below k ns) (same_count v w _ _ e) n ∙ b);
       accepted = ap₂ (λ fs x. acceptable fs x) (same-functions v w _ _ e) t
-          ∙ call-accepted v.functions f (length (numbers_of ids)) ts (all-acceptable v.functions v.trees (numbers_of ids) c.args.self.now.accepted b) (sym (length-map (numbers_of ids) (expr_in v.trees))) (sym c.takes.ensures ∙ c.in-ok-ask-2.ensures)
-          (ap not (sym c.any-total.ensures) ∙ c.in-ok-ask-3.ensures) (sym c.is-small-call.ensures ∙ c.in-ok-ask-4.ensures);
+          ∙ call-accepted v.functions f (length (numbers_of ids)) ts (all-acceptable v.functions v.trees (numbers_of ids) c.args.self.now.accepted b) (sym (length-map (numbers_of ids) (expr_in v.trees))) (sym c.takes.ensures ∙ c.in_ok-ask-2.ensures)
+          (ap not (sym c.any_total.ensures) ∙ c.in_ok-ask-3.ensures) (sym c.is_small_call.ensures ∙ c.in_ok-ask-4.ensures);
       size = ap (λ k. k + 1) c.sizes-size.ensures.value ∙ sym (ap size_of t);
-      width = c.call-width-width.ensures ∙ sym (ap₂ width_of (same-functions v w _ _ e) t);
+      width = c.call_width-width.ensures ∙ sym (ap₂ width_of (same-functions v w _ _ e) t);
     }
 
 pub returns : goal.returns

@@ -14,17 +14,17 @@ one_less fs [] = refl
 one_less fs (t ∷ ts) = omega arith
 
 pub overflow_cast-name : goal.overflow_cast-name
-overflow_cast-name c = omega (arith, ap length c.name-of.ensures, function-named (view_of c.args.self.now).functions c.args.number c.args.self.now.lexicon.good)
+overflow_cast-name c = omega (arith, ap length c.name_of.ensures, function-named (view_of c.args.self.now).functions c.args.number c.args.self.now.lexicon.good)
 
 pub overflow_add-result : goal.overflow_add-result
-overflow_add-result c = omega (arith, ap length c.name-of.ensures, function-named (view_of c.args.self.now).functions c.args.number c.args.self.now.lexicon.good)
+overflow_add-result c = omega (arith, ap length c.name_of.ensures, function-named (view_of c.args.self.now).functions c.args.number c.args.self.now.lexicon.good)
 
 pub overflow_add-result-2 : goal.overflow_add-result-2
 overflow_add-result-2 c =
-    omega (arith, ap length c.name-of.ensures, function-named (view_of c.args.self.now).functions c.args.number c.args.self.now.lexicon.good, c.blank-widths.ensures.bound, c.saturating-sub.ensures)
+    omega (arith, ap length c.name_of.ensures, function-named (view_of c.args.self.now).functions c.args.number c.args.self.now.lexicon.good, c.blank_widths.ensures.bound, c.saturating_sub.ensures)
 
 pub returns : goal.returns
 returns c =
     let v = view_of c.args.self.now in
     let ts = exprs_in v.trees (numbers_of c.args.ids.now) in
-    omega (arith, ap length c.name-of.ensures, call-width v.functions c.args.number ts, one_less v.functions ts, c.blank-widths.ensures.value, c.saturating-sub.ensures)
+    omega (arith, ap length c.name_of.ensures, call-width v.functions c.args.number ts, one_less v.functions ts, c.blank_widths.ensures.value, c.saturating_sub.ensures)

@@ -12,21 +12,21 @@ use Rattle.terms.proofs.terms.Terms.has_field.Goals as goal
 abbrev blank : StoredField
 blank = record { qualifier = Unqualified; name = record { start = 0; len = 0 } }
 
-pub same-field-requires : goal.same-field-requires
-same-field-requires c =
+pub same_field-requires : goal.same_field-requires
+same_field-requires c =
     record { left = c.requires.field; right = every-at (stored_in (view_of c.args.self.now).bytes) c.args.fields.now c.loop-i.i blank c.loop-i-test.true c.requires.stored }
 
-pub returns-then-same-field : goal.returns-then-same-field
-returns-then-same-field c =
+pub returns-then-same_field : goal.returns-then-same_field
+returns-then-same_field c =
     let bs = (view_of c.args.self.now).bytes in
     let p = same_field (stored_field bs c.args.field) in
-    sym (c.loop-i.invariant ∙ mapped-step (any p) (stored_field bs) c.args.fields.now c.loop-i.i blank c.loop-i-test.true ∙ ap (λ b. b || any p (drop (c.loop-i.i + 1) (map (stored_field bs) c.args.fields.now))) (sym c.if-same-field.ensures))
+    sym (c.loop-i.invariant ∙ mapped-step (any p) (stored_field bs) c.args.fields.now c.loop-i.i blank c.loop-i-test.true ∙ ap (λ b. b || any p (drop (c.loop-i.i + 1) (map (stored_field bs) c.args.fields.now))) (sym c.if-same_field.ensures))
 
 pub loop-i-preserved : goal.loop-i-preserved
 loop-i-preserved c =
     let bs = (view_of c.args.self.now).bytes in
     let p = same_field (stored_field bs c.args.field) in
-    c.loop-i.invariant ∙ mapped-step (any p) (stored_field bs) c.args.fields.now c.loop-i.i blank c.loop-i-test.true ∙ ap (λ b. b || any p (drop (c.loop-i.i + 1) (map (stored_field bs) c.args.fields.now))) (sym c.if-same-field.ensures)
+    c.loop-i.invariant ∙ mapped-step (any p) (stored_field bs) c.args.fields.now c.loop-i.i blank c.loop-i-test.true ∙ ap (λ b. b || any p (drop (c.loop-i.i + 1) (map (stored_field bs) c.args.fields.now))) (sym c.if-same_field.ensures)
 
 pub returns : goal.returns
 returns c =

@@ -12,8 +12,8 @@ pub invariant_of-self : goal.invariant_of-self
 invariant_of-self c =
     let t = c.args.self.now in
     let bs = text_of t.lexicon in
-    let k = facts-grown (functions_of t.lexicon) _ bs [] bs (contents t.entries) (map Expression c.args.ids.now) _ (contents t.exprs) refl (sym (append-nil bs)) c.push-exprs.ensures (facts-of t) in
-    (k.is-sound, (k.is-accepted, (k.has-sizes, (k.has-widths, tt))))
+    let k = facts-grown (functions_of t.lexicon) _ bs [] bs (contents t.entries) (map Expression c.args.ids.now) _ (contents t.exprs) refl (sym (append-nil bs)) c.push_exprs.ensures (facts-of t) in
+    record { sound = k.is-sound; accepted = k.is-accepted; sizes = k.has-sizes; widths = k.has-widths }
 
 pub returns : goal.returns
 returns c =
@@ -21,8 +21,8 @@ returns c =
     let bs = text_of t.lexicon in
     let es = contents t.entries in
     let n = map Expression c.args.ids.now in
-    let g = trees-grown bs [] bs es n _ (contents t.exprs) (sym (append-nil bs)) c.push-exprs.ensures t.sound in
+    let g = trees-grown bs [] bs es n _ (contents t.exprs) (sym (append-nil bs)) c.push_exprs.ensures t.sound in
     record {
-      view = same_view (view_of t) (functions_of t.lexicon) (view_of t).trees [] bs [] es n _ _ _ _ refl refl (g.1 ∙ sym (append-nil (view_of t).trees)) (sym (append-nil bs)) c.push-exprs.ensures;
+      view = same_view (view_of t) (functions_of t.lexicon) (view_of t).trees [] bs [] es n _ _ _ _ refl refl (g.1 ∙ sym (append-nil (view_of t).trees)) (sym (append-nil bs)) c.push_exprs.ensures;
       first = c.len-first.ensures.value;
     }

@@ -12,7 +12,7 @@ invariant_of-self c =
     let t = c.args.self.now in
     let bs = text_of t.lexicon in
     let k = facts-grown (functions_of t.lexicon) _ bs [] bs (contents t.entries) c.args.new.now _ (contents t.exprs) refl (sym (append-nil bs)) c.extend.ensures (facts-of t) in
-    (k.is-sound, (k.is-accepted, (k.has-sizes, (k.has-widths, tt))))
+    record { sound = k.is-sound; accepted = k.is-accepted; sizes = k.has-sizes; widths = k.has-widths }
 
 pub returns : goal.returns
 returns c =

@@ -16,10 +16,10 @@ returns-in-Unqualified c =
     let ls = map (stored_field bs) c.args.left.now in
     let rs = map (stored_field bs) c.args.right.now in
     let n = named (word bs f.name) in
-    let a = c.count-named-here.result in
-    let b = c.count-named-there.result in
-    let s : eqb c.saturating-add.result 1 ≡ eqb (a + b) 1 = same_number c.saturating-add.result (a + b) (λ h. omega (arith, c.saturating-add.ensures)) (λ h. omega (arith, c.saturating-add.ensures)) in
-    s ∙ ap (λ k. eqb k 1) (ap₂ (λ x y. x + y) c.count-named-here.ensures.value c.count-named-there.ensures.value ∙ sym (count-both n ls rs))
+    let a = c.count_named-here.result in
+    let b = c.count_named-there.result in
+    let s : eqb c.saturating_add.result 1 ≡ eqb (a + b) 1 = same_number c.saturating_add.result (a + b) (λ h. omega (arith, c.saturating_add.ensures)) (λ h. omega (arith, c.saturating_add.ensures)) in
+    s ∙ ap (λ k. eqb k 1) (ap₂ (λ x y. x + y) c.count_named-here.ensures.value c.count_named-there.ensures.value ∙ sym (count-both n ls rs))
     ∙ ap (λ q. cond (is_unqualified (qualifier_at bs q)) (eqb (count_by n (ls ++ rs)) 1) (any (same_field (stored_field bs f)) (ls ++ rs))) (sym c.in-Unqualified.is)
 
 -- with a qualifier: what the two searches found
@@ -32,11 +32,11 @@ found bs f s ls rs x y e p q =
 pub returns-then-here : goal.returns-then-here
 returns-then-here c =
     let bs = (view_of c.args.self.now).bytes in
-    let g = found bs c.args.field _ (map (stored_field bs) c.args.left.now) (map (stored_field bs) c.args.right.now) _ _ c.in-Qualified.is c.has-field-here.ensures c.has-field-there.ensures in
-    c.if-here.true ∙ ap (λ b. b || c.has-field-there.result) (sym c.if-here.true) ∙ g
+    let g = found bs c.args.field _ (map (stored_field bs) c.args.left.now) (map (stored_field bs) c.args.right.now) _ _ c.in-Qualified.is c.has_field-here.ensures c.has_field-there.ensures in
+    c.if-here.true ∙ ap (λ b. b || c.has_field-there.result) (sym c.if-here.true) ∙ g
 
 pub returns-else-here : goal.returns-else-here
 returns-else-here c =
     let bs = (view_of c.args.self.now).bytes in
-    let g = found bs c.args.field _ (map (stored_field bs) c.args.left.now) (map (stored_field bs) c.args.right.now) _ _ c.in-Qualified.is c.has-field-here.ensures c.has-field-there.ensures in
-    ap (λ b. b || c.has-field-there.result) (sym c.if-here.false) ∙ g
+    let g = found bs c.args.field _ (map (stored_field bs) c.args.left.now) (map (stored_field bs) c.args.right.now) _ _ c.in-Qualified.is c.has_field-here.ensures c.has_field-there.ensures in
+    ap (λ b. b || c.has_field-there.result) (sym c.if-here.false) ∙ g

@@ -7,20 +7,20 @@ use Rattle.terms.proofs.terms.Terms.text.Goals as goal
 
 pub write-span-requires : goal.write-span-requires
 write-span-requires c =
-    omega (arith, (roomy-parts (view_of c.args.self.now) (space 1 0 0 0 (length c.args.bytes.now)) c.in-ok-ask-room.ensures).2)
+    omega (arith, (roomy-parts (view_of c.args.self.now) (space 1 0 0 0 (length c.args.bytes.now)) c.in_ok-ask_room.ensures).2)
 
 pub overflow_cast-bytes : goal.overflow_cast-bytes
 overflow_cast-bytes c =
-    omega (arith, (roomy-parts (view_of c.args.self.now) (space 1 0 0 0 (length c.args.bytes.now)) c.in-ok-ask-room.ensures).2)
+    omega (arith, (roomy-parts (view_of c.args.self.now) (space 1 0 0 0 (length c.args.bytes.now)) c.in_ok-ask_room.ensures).2)
 
 pub add-requires : goal.add-requires
 add-requires c =
     let v = view_of c.args.self.now in
-    let r = roomy-parts v (space 1 0 0 0 (length c.args.bytes.now)) c.in-ok-ask-room.ensures in
+    let r = roomy-parts v (space 1 0 0 0 (length c.args.bytes.now)) c.in_ok-ask_room.ensures in
     record {
       room = omega (arith, r.0, same_count v (view_of c.write-span.new.self) _ _ c.write-span.ensures.view);
       inside = c.write-span.ensures.inside;
-      accepted = ap good_name c.write-span.ensures.word ∙ sym c.good-name.ensures ∙ c.in-ok-ask.ensures;
+      accepted = ap good_name c.write-span.ensures.word ∙ sym c.good_name.ensures ∙ c.in_ok-ask.ensures;
       size = refl;
       width = sym (ap length c.write-span.ensures.word);
     }

@@ -12,7 +12,7 @@ invariant_of-self c =
     let t = c.args.self.now in
     let es = contents t.entries in
     let k = facts-grown (functions_of t.lexicon) _ (text_of t.lexicon) c.args.bytes.now _ es [] es (contents t.exprs) c.write.ensures.functions c.write.ensures.text (sym (append-nil es)) (facts-of t) in
-    (k.is-sound, (k.is-accepted, (k.has-sizes, (k.has-widths, tt))))
+    record { sound = k.is-sound; accepted = k.is-accepted; sizes = k.has-sizes; widths = k.has-widths }
 
 pub returns : goal.returns
 returns c =
