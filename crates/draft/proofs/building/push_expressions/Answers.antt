@@ -9,8 +9,8 @@ use Rattle.draft.proofs.building.push_expressions.Goals as goal
 abbrev zero : ExprId
 zero = record { 0 = 0 }
 
-pub field-of-requires : goal.field-of-requires
-field-of-requires c = one_below (count c.args.terms.now) c.args.ids.now c.loop-id.id-index zero c.loop-id-test.true c.requires.present
+pub field_of-requires : goal.field_of-requires
+field_of-requires c = one_below (count c.args.terms.now) c.args.ids.now c.loop-id.id-index zero c.loop-id-test.true c.requires.present
 
 pub push-requires : goal.push-requires
 push-requires c =
@@ -21,7 +21,7 @@ loop-id-init c = fields-none (view_of c.args.terms.now) (contents c.args.out.now
 
 pub loop-id-preserved : goal.loop-id-preserved
 loop-id-preserved c =
-    fields-more (view_of c.args.terms.now) c.args.ids.now c.loop-id.id-index zero _ _ _ _ c.loop-id-test.true c.loop-id.invariant c.field-of.ensures c.push.ensures
+    fields-more (view_of c.args.terms.now) c.args.ids.now c.loop-id.id-index zero _ _ _ _ c.loop-id-test.true c.loop-id.invariant c.field_of.ensures c.push.ensures
 
 pub returns : goal.returns
 returns c = fields-all (view_of c.args.terms.now) c.args.ids.now c.loop-id.id-index _ _ c.loop-id-test.false c.loop-id.invariant

@@ -17,7 +17,7 @@ push-requires c =
 pub loop-field-preserved : goal.loop-field-preserved
 loop-field-preserved c =
     copied_more as_stored (contents c.args.out.now) c.args.fields.now c.loop-field.field-index blank _ _ (omega arith) c.loop-field.invariant
-    (c.push.ensures ∙ ap (λ q. contents c.loop-field.out ++ drafted q (Stored (get_or c.args.fields.now c.loop-field.field-index blank).name) ∷ []) c.kept-qualifier.ensures)
+    (c.push.ensures ∙ ap (λ q. contents c.loop-field.out ++ drafted q (Stored (get_or c.args.fields.now c.loop-field.field-index blank).name) ∷ []) c.kept_qualifier.ensures)
 
 pub returns : goal.returns
 returns c = copied_all as_stored (contents c.args.out.now) c.args.fields.now c.loop-field.field-index _ (omega arith) c.loop-field.invariant

@@ -7,8 +7,8 @@ use Rattle.draft.specs.Drafts.{draft_field, draft_in}
 use Rattle.draft.proofs.Words.{blank}
 use Rattle.draft.proofs.lawful.is_lawful.Goals as goal
 
-pub clashes-from-requires : goal.clashes-from-requires
-clashes-from-requires c =
+pub clashes_from-requires : goal.clashes_from-requires
+clashes_from-requires c =
     record {
       inside = c.requires.inside;
       field = every-at (draft_in (view_of c.args.terms.now) c.args.owner.now c.args.given.now) c.args.draft.now c.loop-i.i blank c.loop-i-test.true c.requires.inside;
@@ -17,15 +17,15 @@ clashes-from-requires c =
       given = c.requires.given;
     }
 
-pub returns-then-clashes-from : goal.returns-then-clashes-from
-returns-then-clashes-from c =
+pub returns-then-clashes_from : goal.returns-then-clashes_from
+returns-then-clashes_from c =
     let f = draft_field (view_of c.args.terms.now) c.args.owner.now c.args.given.now in
-    sym (c.loop-i.invariant ∙ mapped-step lawful f c.args.draft.now c.loop-i.i blank c.loop-i-test.true ∙ ap (λ b. not b && lawful (drop (c.loop-i.i + 1) (map f c.args.draft.now))) (sym c.if-clashes-from.ensures))
+    sym (c.loop-i.invariant ∙ mapped-step lawful f c.args.draft.now c.loop-i.i blank c.loop-i-test.true ∙ ap (λ b. not b && lawful (drop (c.loop-i.i + 1) (map f c.args.draft.now))) (sym c.if-clashes_from.ensures))
 
 pub loop-i-preserved : goal.loop-i-preserved
 loop-i-preserved c =
     let f = draft_field (view_of c.args.terms.now) c.args.owner.now c.args.given.now in
-    c.loop-i.invariant ∙ mapped-step lawful f c.args.draft.now c.loop-i.i blank c.loop-i-test.true ∙ ap (λ b. not b && lawful (drop (c.loop-i.i + 1) (map f c.args.draft.now))) (sym c.if-clashes-from.ensures)
+    c.loop-i.invariant ∙ mapped-step lawful f c.args.draft.now c.loop-i.i blank c.loop-i-test.true ∙ ap (λ b. not b && lawful (drop (c.loop-i.i + 1) (map f c.args.draft.now))) (sym c.if-clashes_from.ensures)
 
 pub returns : goal.returns
 returns c =

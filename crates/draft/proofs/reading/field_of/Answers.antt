@@ -16,7 +16,7 @@ returns-in-Constant c =
 pub returns-in-Reference : goal.returns-in-Reference
 returns-in-Reference c =
     let v = view_of c.args.terms.now in
-    field-kept v _ c.in-Reference.qualifier c.in-Reference.name _ c.kept-qualifier.ensures (ap (field_of v.functions) c.in-Reference.ensures.tree) (ap (rendered_bytes v.functions) c.in-Reference.ensures.tree) c.in-Reference.ensures.inside
+    field-kept v _ c.in-Reference.qualifier c.in-Reference.name _ c.kept_qualifier.ensures (ap (field_of v.functions) c.in-Reference.ensures.tree) (ap (rendered_bytes v.functions) c.in-Reference.ensures.tree) c.in-Reference.ensures.inside
 
 pub returns-in-Alias : goal.returns-in-Alias
 returns-in-Alias c =
@@ -24,7 +24,7 @@ returns-in-Alias c =
     let q = c.in-Alias.qualifier in
     let n = c.in-Alias.name in
     let h = and_parts (ltb c.in-Alias.inner.0 c.args.e.0) (field_in v.bytes q n) c.in-Alias.ensures.inside in
-    field-kept v _ q n _ c.kept-qualifier-in-Alias.ensures (ap (field_of v.functions) c.in-Alias.ensures.tree) (ap (rendered_bytes v.functions) c.in-Alias.ensures.tree) h.1
+    field-kept v _ q n _ c.kept_qualifier-in-Alias.ensures (ap (field_of v.functions) c.in-Alias.ensures.tree) (ap (rendered_bytes v.functions) c.in-Alias.ensures.tree) h.1
 
 pub returns-in-Call : goal.returns-in-Call
 returns-in-Call c =

@@ -11,11 +11,11 @@ use Rattle.draft.proofs.reading.rendered_bytes.Goals as goal
 abbrev zero : ExprId
 zero = record { 0 = 0 }
 
-pub rendered-len-requires : goal.rendered-len-requires
-rendered-len-requires c = one_below (count c.args.terms.now) c.args.ids.now c.loop-id.id-index zero c.loop-id-test.true c.requires.present
+pub rendered_len-requires : goal.rendered_len-requires
+rendered_len-requires c = one_below (count c.args.terms.now) c.args.ids.now c.loop-id.id-index zero c.loop-id-test.true c.requires.present
 
 pub overflow_add-total : goal.overflow_add-total
-overflow_add-total c = omega (arith, c.loop-id.invariant.1, c.rendered-len.ensures.bound, c.requires.few, c.loop-id-test.true)
+overflow_add-total c = omega (arith, c.loop-id.invariant.1, c.rendered_len.ensures.bound, c.requires.few, c.loop-id-test.true)
 
 pub loop-id-preserved : goal.loop-id-preserved
 loop-id-preserved c =
@@ -25,7 +25,7 @@ loop-id-preserved c =
     let f = rendered_bytes v.functions in
     let rest = drop (c.loop-id.id-index + 1) (exprs_in v.trees (numbers_of c.args.ids.now)) in
     let s = twice-step (sum_by f) (expr_in v.trees) (λ e. e.0) c.args.ids.now c.loop-id.id-index zero c.loop-id-test.true ∙ sum_by-cons f (tree_of t i) rest in
-    (omega (arith, c.loop-id.invariant.0, s, c.rendered-len.ensures.value), omega (arith, c.loop-id.invariant.1, c.rendered-len.ensures.bound))
+    (omega (arith, c.loop-id.invariant.0, s, c.rendered_len.ensures.value), omega (arith, c.loop-id.invariant.1, c.rendered_len.ensures.bound))
 
 pub returns : goal.returns
 returns c =

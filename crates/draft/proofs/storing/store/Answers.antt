@@ -11,8 +11,8 @@ loop-field-init c =
     let v = view_of c.args.terms.now in
     stored-none v (word v.bytes c.args.owner) (word v.bytes c.args.given) (contents c.args.fields.now)
 
-pub store-field-requires : goal.store-field-requires
-store-field-requires c =
+pub store_field-requires : goal.store_field-requires
+store_field-requires c =
     let v = view_of c.args.terms.now in
     let r = stored-ready v _ c.args.owner c.args.given c.args.draft.now c.loop-field.field-index _ _ blank c.loop-field-test.true c.requires.owner c.requires.given c.requires.inside c.requires.bytes c.loop-field.invariant in
     record { owner = r.0; given = r.1; inside = r.2; room = r.3 }
@@ -25,7 +25,7 @@ push-requires c =
 pub loop-field-preserved : goal.loop-field-preserved
 loop-field-preserved c =
     let v = view_of c.args.terms.now in
-    stored_more v _ c.args.owner c.args.given c.args.draft.now c.loop-field.field-index _ _ _ blank _ _ c.loop-field-test.true c.requires.owner c.requires.given c.requires.inside c.loop-field.invariant c.store-field.ensures c.push.ensures
+    stored_more v _ c.args.owner c.args.given c.args.draft.now c.loop-field.field-index _ _ _ blank _ _ c.loop-field-test.true c.requires.owner c.requires.given c.requires.inside c.loop-field.invariant c.store_field.ensures c.push.ensures
 
 pub returns : goal.returns
 returns c =

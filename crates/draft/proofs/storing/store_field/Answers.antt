@@ -6,8 +6,8 @@ use Rattle.terms.specs.Spans.{word}
 use Rattle.draft.specs.Drafts.{word_in, owner_in}
 use Rattle.draft.proofs.storing.store_field.Goals as goal
 
-pub store-word-name-requires : goal.store-word-name-requires
-store-word-name-requires c =
+pub store_word-name-requires : goal.store_word-name-requires
+store_word-name-requires c =
     let v = view_of c.args.terms.now in
     let d = c.args.field in
     let h = and_parts (word_in v (word v.bytes c.args.owner) (word v.bytes c.args.given) d.name) (owner_in v d.qualifier) c.requires.inside in
@@ -15,4 +15,4 @@ store-word-name-requires c =
 
 pub returns : goal.returns
 returns c =
-    stored-from (view_of c.args.terms.now) _ c.args.owner c.args.given c.args.field _ _ c.requires.owner c.requires.inside c.store-word-name.ensures c.stored-qualifier.ensures
+    stored-from (view_of c.args.terms.now) _ c.args.owner c.args.given c.args.field _ _ c.requires.owner c.requires.inside c.store_word-name.ensures c.stored_qualifier.ensures

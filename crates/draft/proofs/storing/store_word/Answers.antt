@@ -44,8 +44,8 @@ returns-in-Given c =
     let r : Span = record { start = g.start + s.start; len = s.len } in
     subst (λ w. WordAs v o g w v r) (sym c.in-Given.is) (word_none v o g (Given s) r refl p.0 (le-leb _ _ p.1))
 
-pub write-rendered-requires : goal.write-rendered-requires
-write-rendered-requires c =
+pub write_rendered-requires : goal.write_rendered-requires
+write_rendered-requires c =
     let v = view_of c.args.terms.now in
     let o = c.args.owner in
     let g = c.args.given in
@@ -57,5 +57,5 @@ returns-in-Rendered c =
     let v = view_of c.args.terms.now in
     let o = c.args.owner in
     let g = c.args.given in
-    let e = c.write-rendered.ensures in
-    subst (λ w. WordAs v o g w (view_of c.write-rendered.new.terms) c.write-rendered.result) (sym c.in-Rendered.is) (record { bytes = _; view = e.view; used = refl; is = e.word; inside = e.inside })
+    let e = c.write_rendered.ensures in
+    subst (λ w. WordAs v o g w (view_of c.write_rendered.new.terms) c.write_rendered.result) (sym c.in-Rendered.is) (record { bytes = _; view = e.view; used = refl; is = e.word; inside = e.inside })
