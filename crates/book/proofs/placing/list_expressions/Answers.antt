@@ -8,8 +8,8 @@ use Rattle.book.specs.Listing.{ListedAs}
 use Rattle.book.proofs.placing.list_expressions.Goals as goal
 
 pub list-requires : goal.list-requires
-list-requires c = omega (arith, ap length (c.push-expressions.ensures ∙ ap (λ l. l ++ map Expression c.args.ids.now) c.new-entries.ensures), length-map c.args.ids.now Expression, c.requires.room)
+list-requires c = omega (arith, ap length (c.push_expressions.ensures ∙ ap (λ l. l ++ map Expression c.args.ids.now) c.new-entries.ensures), length-map c.args.ids.now Expression, c.requires.room)
 
 pub returns : goal.returns
 returns c =
-    subst (λ es. ListedAs (view_of c.args.terms.now) es c.list.result (view_of c.list.new.terms)) (c.push-expressions.ensures ∙ ap (λ l. l ++ map Expression c.args.ids.now) c.new-entries.ensures) c.list.ensures
+    subst (λ es. ListedAs (view_of c.args.terms.now) es c.list.result (view_of c.list.new.terms)) (c.push_expressions.ensures ∙ ap (λ l. l ++ map Expression c.args.ids.now) c.new-entries.ensures) c.list.ensures

@@ -8,8 +8,8 @@ use Rattle.book.specs.Listing.{ListedAs}
 use Rattle.book.proofs.placing.list_inputs.Goals as goal
 
 pub list-requires : goal.list-requires
-list-requires c = omega (arith, ap length (c.push-inputs.ensures ∙ ap (λ l. l ++ map Input c.args.ids.now) c.new-entries.ensures), length-map c.args.ids.now Input, c.requires.room)
+list-requires c = omega (arith, ap length (c.push_inputs.ensures ∙ ap (λ l. l ++ map Input c.args.ids.now) c.new-entries.ensures), length-map c.args.ids.now Input, c.requires.room)
 
 pub returns : goal.returns
 returns c =
-    subst (λ es. ListedAs (view_of c.args.terms.now) es c.list.result (view_of c.list.new.terms)) (c.push-inputs.ensures ∙ ap (λ l. l ++ map Input c.args.ids.now) c.new-entries.ensures) c.list.ensures
+    subst (λ es. ListedAs (view_of c.args.terms.now) es c.list.result (view_of c.list.new.terms)) (c.push_inputs.ensures ∙ ap (λ l. l ++ map Input c.args.ids.now) c.new-entries.ensures) c.list.ensures

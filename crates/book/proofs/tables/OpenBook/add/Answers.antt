@@ -24,16 +24,16 @@ pub store-requires : goal.store-requires
 store-requires c =
     let t = c.args.self.now in
     let n = c.args.node in
-    let ds = contents c.draft-shown.new.out in
+    let ds = contents c.draft_shown.new.out in
     let w = view_of c.place-placed.new.terms in
-    let s = c.as-slice.ensures in
+    let s = c.as_slice.ensures in
     let f = fits-parts (model_of t).used (outlay_for t n) c.requires.room in
     record {
       owner = c.place-placed.ensures.owner_inside;
       given = c.place-placed.ensures.given_inside;
-      inside = ap (every _) s ∙ draft-kept t n _ ds c.draft-shown.ensures w c.place-placed.result c.place-placed.ensures;
-      fields = omega (arith, ap length s, draft-long t n _ ds c.draft-shown.ensures w c.place-placed.result c.place-placed.ensures, f.2);
-      bytes = omega (arith, ap (draft_bytes w) s, bytes_left t n _ ds c.draft-shown.ensures w c.place-placed.result c.place-placed.ensures c.requires.room);
+      inside = ap (every _) s ∙ draft-kept t n _ ds c.draft_shown.ensures w c.place-placed.result c.place-placed.ensures;
+      fields = omega (arith, ap length s, draft-long t n _ ds c.draft_shown.ensures w c.place-placed.result c.place-placed.ensures, f.2);
+      bytes = omega (arith, ap (draft_bytes w) s, bytes_left t n _ ds c.draft_shown.ensures w c.place-placed.result c.place-placed.ensures c.requires.room);
     }
 
 pub push-requires : goal.push-requires
@@ -45,19 +45,19 @@ pub invariant_of-self : goal.invariant_of-self
 invariant_of-self c =
     let t = c.args.self.now in
     let n = c.args.node in
-    let ds = contents c.draft-shown.new.out in
+    let ds = contents c.draft_shown.new.out in
     let w = view_of c.place-placed.new.terms in
     let x = c.place-placed.result in
-    let st = stored-for w (view_of c.store.new.terms) _ _ _ ds (contents t.fields) (contents c.store.new.fields) c.as-slice.ensures c.store.ensures in
-    let k = added-facts t n c.len.result ds c.draft-shown.ensures w x c.place-placed.ensures (c.len.ensures.value ∙ sym (counted t)) (view_of c.store.new.terms) (contents c.store.new.fields) st c.requires.limited _ refl _ _ _ c.len-first.ensures.value c.len-count.ensures.value c.tree-size-size.ensures (contents c.push.new.self) c.push.ensures in
+    let st = stored-for w (view_of c.store.new.terms) _ _ _ ds (contents t.fields) (contents c.store.new.fields) c.as_slice.ensures c.store.ensures in
+    let k = added-facts t n c.len.result ds c.draft_shown.ensures w x c.place-placed.ensures (c.len.ensures.value ∙ sym (counted t)) (view_of c.store.new.terms) (contents c.store.new.fields) st c.requires.limited _ refl _ _ _ c.len-first.ensures.value c.len-count.ensures.value c.tree_size-size.ensures (contents c.push.new.self) c.push.ensures in
     (k.are-stored, (k.are-sound, (k.are-fielded, (k.have-sizes, tt))))
 
 pub returns : goal.returns
 returns c =
     let t = c.args.self.now in
     let n = c.args.node in
-    let ds = contents c.draft-shown.new.out in
+    let ds = contents c.draft_shown.new.out in
     let w = view_of c.place-placed.new.terms in
     let x = c.place-placed.result in
-    let st = stored-for w (view_of c.store.new.terms) _ _ _ ds (contents t.fields) (contents c.store.new.fields) c.as-slice.ensures c.store.ensures in
-    added t n c.len.result ds c.draft-shown.ensures w x c.place-placed.ensures (c.len.ensures.value ∙ sym (counted t)) (view_of c.store.new.terms) (contents c.store.new.fields) st c.requires.limited _ refl _ _ _ c.len-first.ensures.value c.len-count.ensures.value c.tree-size-size.ensures (contents c.push.new.self) c.push.ensures
+    let st = stored-for w (view_of c.store.new.terms) _ _ _ ds (contents t.fields) (contents c.store.new.fields) c.as_slice.ensures c.store.ensures in
+    added t n c.len.result ds c.draft_shown.ensures w x c.place-placed.ensures (c.len.ensures.value ∙ sym (counted t)) (view_of c.store.new.terms) (contents c.store.new.fields) st c.requires.limited _ refl _ _ _ c.len-first.ensures.value c.len-count.ensures.value c.tree_size-size.ensures (contents c.push.new.self) c.push.ensures

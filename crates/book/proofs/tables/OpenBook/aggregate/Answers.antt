@@ -11,11 +11,11 @@ use Rattle.book.specs.declared.node.NewNode.TheVariants.{Aggregate}
 use Rattle.book.proofs.NodeAnswers.{plan-answers}
 use Rattle.book.proofs.tables.OpenBook.aggregate.Goals as goal
 
-pub are-placed-requires : goal.are-placed-requires
-are-placed-requires c =
+pub are_placed-requires : goal.are_placed-requires
+are_placed-requires c =
     let t = c.args.self.now in
     let n = length (view_in t).trees in
-    let p = and_parts (below (plan_count t) c.args.input.0) _ (sym c.has-lists.ensures ∙ c.in-ok-ask.ensures) in
+    let p = and_parts (below (plan_count t) c.args.input.0) _ (sym c.has_lists.ensures ∙ c.in_ok-ask.ensures) in
     let q = and_parts (all_below n (numbers_of c.args.groups.now)) _ p.1 in
     record { groups = q.0; totals = q.1 }
 
@@ -23,9 +23,9 @@ pub make-requires : goal.make-requires
 make-requires c =
     let gs = c.args.groups.now in
     let us = c.args.totals.now in
-    let few = and_parts (leb (length (numbers_of gs)) 16 && leb (length (numbers_of us)) 16) _ (sym c.are-few.ensures ∙ c.in-ok-ask-2.ensures) in
+    let few = and_parts (leb (length (numbers_of gs)) 16 && leb (length (numbers_of us)) 16) _ (sym c.are_few.ensures ∙ c.in_ok-ask-2.ensures) in
     record {
-      present = sym c.has-lists.ensures ∙ c.in-ok-ask.ensures;
+      present = sym c.has_lists.ensures ∙ c.in_ok-ask.ensures;
       bounded = ap₂ (λ g u. leb g 16 && leb u 16) (sym (length-map gs (λ e. e.0))) (sym (length-map us (λ e. e.0))) ∙ few.0;
       named = refl;
     }
@@ -38,6 +38,6 @@ returns c =
     let n = Aggregate c.args.input c.args.groups c.args.totals in
     plan-answers t n (make_aggregate c.args.input.0 (numbers_of gs) (numbers_of us)) ((Present, _) ∷ (Bounded, _) ∷ (Placed, _) ∷ [])
     (record { asks = refl; own_first = refl; exprs = refl; plans = refl; costs = ap₂ (λ g u. node_outlay (view_in t).functions (tree_for t n) (g + u) 0) (length-map gs (λ e. e.0)) (length-map us (λ e. e.0)); number = refl })
-    (sym c.has-lists.ensures ∙ c.in-ok-ask.ensures, (sym c.are-few.ensures ∙ c.in-ok-ask-2.ensures, (sym c.are-placed.ensures ∙ c.in-ok-ask-3.ensures, tt)))
+    (sym c.has_lists.ensures ∙ c.in_ok-ask.ensures, (sym c.are_few.ensures ∙ c.in_ok-ask-2.ensures, (sym c.are_placed.ensures ∙ c.in_ok-ask-3.ensures, tt)))
     c.make.result _
     c.make.ensures

@@ -14,17 +14,17 @@ use Rattle.book.proofs.tables.OpenBook.all_short.Goals as goal
 abbrev zero : ExprId
 zero = record { 0 = 0 }
 
-pub name-bytes-requires : goal.name-bytes-requires
-name-bytes-requires c = one_below (length (view_in c.args.self.now).trees) c.args.ids.now c.loop-id.id-index zero c.loop-id-test.true c.requires
+pub name_bytes-requires : goal.name_bytes-requires
+name_bytes-requires c = one_below (length (view_in c.args.self.now).trees) c.args.ids.now c.loop-id.id-index zero c.loop-id-test.true c.requires
 
-pub returns-then-name-bytes-gt255 : goal.returns-then-name-bytes-gt255
-returns-then-name-bytes-gt255 c =
+pub returns-then-name_bytes-gt255 : goal.returns-then-name_bytes-gt255
+returns-then-name_bytes-gt255 c =
     let v = view_in c.args.self.now in
     let ids = c.args.ids.now in
     let p = every (short_name v.functions) in
     let e = expr_in v.trees (get_or ids c.loop-id.id-index zero).0 in
     sym (c.loop-id.invariant ∙ twice-step p (expr_in v.trees) (λ x. x.0) ids c.loop-id.id-index zero c.loop-id-test.true
-    ∙ ap (λ b. b && p (drop (c.loop-id.id-index + 1) (exprs_in v.trees (numbers_of ids)))) (short-bytes v.functions e ∙ lt-leb _ _ (omega (arith, c.name-bytes.ensures.value, c.if-name-bytes-gt255.true))))
+    ∙ ap (λ b. b && p (drop (c.loop-id.id-index + 1) (exprs_in v.trees (numbers_of ids)))) (short-bytes v.functions e ∙ lt-leb _ _ (omega (arith, c.name_bytes.ensures.value, c.if-name_bytes-gt255.true))))
 
 pub loop-id-preserved : goal.loop-id-preserved
 loop-id-preserved c =
@@ -33,7 +33,7 @@ loop-id-preserved c =
     let p = every (short_name v.functions) in
     let e = expr_in v.trees (get_or ids c.loop-id.id-index zero).0 in
     c.loop-id.invariant ∙ twice-step p (expr_in v.trees) (λ x. x.0) ids c.loop-id.id-index zero c.loop-id-test.true
-    ∙ ap (λ b. b && p (drop (c.loop-id.id-index + 1) (exprs_in v.trees (numbers_of ids)))) (short-bytes v.functions e ∙ le-leb _ _ (omega (arith, c.name-bytes.ensures.value, c.if-name-bytes-gt255.false)))
+    ∙ ap (λ b. b && p (drop (c.loop-id.id-index + 1) (exprs_in v.trees (numbers_of ids)))) (short-bytes v.functions e ∙ le-leb _ _ (omega (arith, c.name_bytes.ensures.value, c.if-name_bytes-gt255.false)))
 
 pub returns : goal.returns
 returns c =

@@ -12,22 +12,22 @@ use Rattle.book.proofs.tables.OpenBook.any_key_total.Goals as goal
 abbrev zero : Key
 zero = record { by = record { 0 = 0 }; direction = 0 }
 
-pub is-total-requires : goal.is-total-requires
-is-total-requires c = given_below (length (view_in c.args.self.now).trees) c.args.keys.now c.loop-key.key-index zero c.loop-key-test.true c.requires
+pub is_total-requires : goal.is_total-requires
+is_total-requires c = given_below (length (view_in c.args.self.now).trees) c.args.keys.now c.loop-key.key-index zero c.loop-key-test.true c.requires
 
-pub returns-then-is-total : goal.returns-then-is-total
-returns-then-is-total c =
+pub returns-then-is_total : goal.returns-then-is_total
+returns-then-is_total c =
     let v = view_in c.args.self.now in
     let ks = c.args.keys.now in
     let some = λ (l : List ℕ). any (is_total v.functions) (exprs_in v.trees l) in
-    sym (c.loop-key.invariant ∙ twice-step some (λ k. k.0) key_pair ks c.loop-key.key-index zero c.loop-key-test.true ∙ ap (λ b. b || some (drop (c.loop-key.key-index + 1) (map (λ k. k.0) (key_pairs ks)))) (sym c.if-is-total.ensures))
+    sym (c.loop-key.invariant ∙ twice-step some (λ k. k.0) key_pair ks c.loop-key.key-index zero c.loop-key-test.true ∙ ap (λ b. b || some (drop (c.loop-key.key-index + 1) (map (λ k. k.0) (key_pairs ks)))) (sym c.if-is_total.ensures))
 
 pub loop-key-preserved : goal.loop-key-preserved
 loop-key-preserved c =
     let v = view_in c.args.self.now in
     let ks = c.args.keys.now in
     let some = λ (l : List ℕ). any (is_total v.functions) (exprs_in v.trees l) in
-    c.loop-key.invariant ∙ twice-step some (λ k. k.0) key_pair ks c.loop-key.key-index zero c.loop-key-test.true ∙ ap (λ b. b || some (drop (c.loop-key.key-index + 1) (map (λ k. k.0) (key_pairs ks)))) (sym c.if-is-total.ensures)
+    c.loop-key.invariant ∙ twice-step some (λ k. k.0) key_pair ks c.loop-key.key-index zero c.loop-key-test.true ∙ ap (λ b. b || some (drop (c.loop-key.key-index + 1) (map (λ k. k.0) (key_pairs ks)))) (sym c.if-is_total.ensures)
 
 pub returns : goal.returns
 returns c =

@@ -6,15 +6,15 @@ use Rattle.book.specs.Holding.{view_in, trees_in}
 use Rattle.book.specs.Making.{input_numbers}
 use Rattle.book.proofs.tables.OpenBook.are_alike.Goals as goal
 
-pub returns-then-not-is-count : goal.returns-then-not-is-count
-returns-then-not-is-count c =
+pub returns-then-not-is_count : goal.returns-then-not-is_count
+returns-then-not-is_count c =
     let t = c.args.self.now in
     let ps = c.args.inputs.now in
-    ap (λ b. b && equal_widths (view_in t).functions (plans_in (trees_in t) (input_numbers ps))) (c.if-not-is-count.ensures ∙ ap (between 1 8) (sym (length-map ps (λ p. p.0))))
+    ap (λ b. b && equal_widths (view_in t).functions (plans_in (trees_in t) (input_numbers ps))) (c.if-not-is_count.ensures ∙ ap (between 1 8) (sym (length-map ps (λ p. p.0))))
 
 pub returns : goal.returns
 returns c =
     let t = c.args.self.now in
     let ps = c.args.inputs.now in
-    c.same-widths.ensures
-    ∙ ap (λ b. b && equal_widths (view_in t).functions (plans_in (trees_in t) (input_numbers ps))) (c.if-not-is-count.ensures ∙ ap (between 1 8) (sym (length-map ps (λ p. p.0))))
+    c.same_widths.ensures
+    ∙ ap (λ b. b && equal_widths (view_in t).functions (plans_in (trees_in t) (input_numbers ps))) (c.if-not-is_count.ensures ∙ ap (between 1 8) (sym (length-map ps (λ p. p.0))))

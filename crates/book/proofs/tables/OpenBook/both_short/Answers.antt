@@ -7,16 +7,16 @@ use Rattle.terms.proofs.Walks.{every-both}
 use Rattle.book.specs.Holding.{view_in}
 use Rattle.book.proofs.tables.OpenBook.both_short.Goals as goal
 
-pub returns-then-not-all-short : goal.returns-then-not-all-short
-returns-then-not-all-short c =
+pub returns-then-not-all_short : goal.returns-then-not-all_short
+returns-then-not-all_short c =
     let v = view_in c.args.self.now in
     let p = short_name v.functions in
     let us = exprs_in v.trees (numbers_of c.args.second.now) in
-    sym (every-both p (exprs_in v.trees (numbers_of c.args.first.now)) us ∙ ap (λ b. b && every p us) (sym c.if-not-all-short.ensures))
+    sym (every-both p (exprs_in v.trees (numbers_of c.args.first.now)) us ∙ ap (λ b. b && every p us) (sym c.if-not-all_short.ensures))
 
 pub returns : goal.returns
 returns c =
     let v = view_in c.args.self.now in
     let p = short_name v.functions in
     let us = exprs_in v.trees (numbers_of c.args.second.now) in
-    c.all-short-2.ensures ∙ sym (every-both p (exprs_in v.trees (numbers_of c.args.first.now)) us ∙ ap (λ b. b && every p us) (sym c.if-not-all-short.ensures))
+    c.all_short-2.ensures ∙ sym (every-both p (exprs_in v.trees (numbers_of c.args.first.now)) us ∙ ap (λ b. b && every p us) (sym c.if-not-all_short.ensures))

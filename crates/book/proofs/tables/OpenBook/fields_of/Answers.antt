@@ -9,15 +9,15 @@ use Rattle.book.proofs.PlanFrames.{every-part}
 use Rattle.book.proofs.tables.OpenBook.fields_of.Goals as goal
 
 pub part-requires : goal.part-requires
-part-requires c = (lit< tt, leb-true _ _ c.record-of.ensures.run)
+part-requires c = (lit< tt, leb-true _ _ c.record_of.ensures.run)
 
 pub returns : goal.returns
 returns c =
     let t = c.args.self.now in
-    let r = c.record-of.result.fields in
+    let r = c.record_of.result.fields in
     let e = c.part.ensures in
     record {
-      value = ap (map (stored_field (view_in t).bytes)) e ∙ c.record-of.ensures.fields;
+      value = ap (map (stored_field (view_in t).bytes)) e ∙ c.record_of.ensures.fields;
       stored = ap (every (stored_in (view_in t).bytes)) e ∙ every-part (stored_in (view_in t).bytes) (contents t.fields) r.first r.count t.stored;
-      few = omega (arith, ap length e, length_part (contents t.fields) r.first r.count (leb-true _ _ c.record-of.ensures.run), c.record-of.ensures.few);
+      few = omega (arith, ap length e, length_part (contents t.fields) r.first r.count (leb-true _ _ c.record_of.ensures.run), c.record_of.ensures.few);
     }

@@ -12,6 +12,6 @@ returns c =
     let t = c.args.self.now in
     plan-answers t (Filter c.args.input c.args.predicate) (make_filter c.args.input.0 c.args.predicate.0) ((Present, _) ∷ (Placed, _) ∷ [])
     (record { asks = refl; own_first = refl; exprs = refl; plans = refl; costs = refl; number = refl })
-    (sym c.has-expr.ensures ∙ c.in-ok-ask.ensures, (ap not (sym c.is-total.ensures) ∙ c.in-ok-ask-2.ensures, tt))
+    (sym c.has_expr.ensures ∙ c.in_ok-ask.ensures, (ap not (sym c.is_total.ensures) ∙ c.in_ok-ask-2.ensures, tt))
     c.make.result _
-    (subst (λ n. NodeMade t n c.make.result (model_of c.make.new.self)) c.filter-node.ensures c.make.ensures)
+    (subst (λ n. NodeMade t n c.make.result (model_of c.make.new.self)) c.filter_node.ensures c.make.ensures)

@@ -6,4 +6,4 @@ use Rattle.book.proofs.tables.OpenBook.has_field.Goals as goal
 
 pub returns : goal.returns
 returns c =
-    ap (ltb c.args.i) (sym (length-map c.fields-of.result.now (stored_field (view_in c.args.self.now).bytes)) ∙ ap length c.fields-of.ensures.value)
+    ap (ltb c.args.i) (sym (length-map c.fields_of.result.now (stored_field (view_in c.args.self.now).bytes)) ∙ ap length c.fields_of.ensures.value)

@@ -12,4 +12,4 @@ returns c =
     let plans : plan_count t + 1 ≤ 128 = omega arith in
     let lists : length (view_in t).entries + entries_for n ≤ 2048 = omega arith in
     let fields : length (contents t.fields) + (outlay_for t n).fields ≤ 2048 = omega arith in
-    c.has-text-room.ensures ∙ rest-fits (model_of t).used (outlay_for t n) (exprs-fit t) plans lists fields
+    c.has_text_room.ensures ∙ rest-fits (model_of t).used (outlay_for t n) (exprs-fit t) plans lists fields

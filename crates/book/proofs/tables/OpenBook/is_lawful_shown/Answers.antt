@@ -6,17 +6,17 @@ use Rattle.book.specs.Placing.{lent_owner, lent_given}
 use Rattle.book.proofs.Adding.{lent-short}
 use Rattle.book.proofs.tables.OpenBook.is_lawful_shown.Goals as goal
 
-pub is-lawful-requires : goal.is-lawful-requires
-is-lawful-requires c =
+pub is_lawful-requires : goal.is_lawful-requires
+is_lawful-requires c =
     let v = view_in c.args.self.now in
     let s = lent-short c.args.node c.requires.named c.requires.bounded in
     record {
-      inside = ap₂ (λ o g. every (draft_in v o g) c.as-slice.result.now) c.lent-owner.ensures c.lent-given.ensures ∙ ap (every (draft_in v (lent_owner c.args.node) (lent_given c.args.node))) c.as-slice.ensures ∙ c.draft-shown.ensures.inside;
-      owner = omega (arith, ap length c.lent-owner.ensures, s.0);
-      given = omega (arith, ap length c.lent-given.ensures, s.1);
+      inside = ap₂ (λ o g. every (draft_in v o g) c.as_slice.result.now) c.lent_owner.ensures c.lent_given.ensures ∙ ap (every (draft_in v (lent_owner c.args.node) (lent_given c.args.node))) c.as_slice.ensures ∙ c.draft_shown.ensures.inside;
+      owner = omega (arith, ap length c.lent_owner.ensures, s.0);
+      given = omega (arith, ap length c.lent_given.ensures, s.1);
     }
 
 pub returns : goal.returns
 returns c =
     let v = view_in c.args.self.now in
-    c.is-lawful.ensures ∙ ap₂ (λ o g. lawful (map (draft_field v o g) c.as-slice.result.now)) c.lent-owner.ensures c.lent-given.ensures ∙ ap (λ l. lawful (map (draft_field v (lent_owner c.args.node) (lent_given c.args.node)) l)) c.as-slice.ensures ∙ ap lawful c.draft-shown.ensures.fields
+    c.is_lawful.ensures ∙ ap₂ (λ o g. lawful (map (draft_field v o g) c.as_slice.result.now)) c.lent_owner.ensures c.lent_given.ensures ∙ ap (λ l. lawful (map (draft_field v (lent_owner c.args.node) (lent_given c.args.node)) l)) c.as_slice.ensures ∙ ap lawful c.draft_shown.ensures.fields

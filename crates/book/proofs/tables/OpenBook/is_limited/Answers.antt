@@ -10,5 +10,5 @@ returns c =
     let t = c.args.self.now in
     let few : length (fields_of (view_in t).functions (tree_for t c.args.node)) ≤ 64 = omega arith in
     let nodes : plan_size_of (tree_for t c.args.node) ≤ 64 = omega arith in
-    c.has-short-names.ensures
+    c.has_short_names.ensures
     ∙ within (view_in t).functions (tree_for t c.args.node) few nodes (all_small t c.args.node c.requires.present)

@@ -9,5 +9,5 @@ use Rattle.book.proofs.tables.OpenBook.is_resolved.Goals as goal
 pub returns-in-Sort : goal.returns-in-Sort
 returns-in-Sort c =
     let t = c.args.self.now in
-    c.keys-resolved.ensures
+    c.keys_resolved.ensures
     ∙ sym (ap (λ n. every (resolved (input_fields (view_in t).functions (tree_for t n))) (expressions_of (tree_for t n))) c.in-Sort.is ∙ ap (every (resolved (fields_at t c.in-Sort.input.0))) (key-expressions (view_in t).trees c.in-Sort.keys.now))

@@ -9,6 +9,6 @@ returns-in-Inner c =
     let ls = fields_at t c.args.left.0 in
     let rs = fields_at t c.args.right.0 in
     record {
-      value = omega (arith, c.width-of-in-Inner.ensures.value, c.width-of-in-Inner-2.ensures.value, ap length (shows-both c.args.kind ls rs c.in-Inner.is), length-append ls rs);
-      bound = omega (arith, c.width-of-in-Inner.ensures.bound, c.width-of-in-Inner-2.ensures.bound);
+      value = omega (arith, c.width_of-in-Inner.ensures.value, c.width_of-in-Inner-2.ensures.value, ap length (shows-both c.args.kind ls rs c.in-Inner.is), length-append ls rs);
+      bound = omega (arith, c.width_of-in-Inner.ensures.bound, c.width_of-in-Inner-2.ensures.bound);
     }

@@ -12,23 +12,23 @@ use Rattle.book.proofs.tables.OpenBook.keys_resolved.Goals as goal
 abbrev zero : SortKey
 zero = record { by = record { 0 = 0 }; direction = AscendingNullsFirst }
 
-pub one-resolved-requires : goal.one-resolved-requires
-one-resolved-requires c =
+pub one_resolved-requires : goal.one_resolved-requires
+one_resolved-requires c =
     record { input = c.requires.input; present = key_below (length (view_in c.args.self.now).trees) c.args.keys.now c.loop-key.key-index zero c.loop-key-test.true c.requires.present }
 
-pub returns-then-not-one-resolved : goal.returns-then-not-one-resolved
-returns-then-not-one-resolved c =
+pub returns-then-not-one_resolved : goal.returns-then-not-one_resolved
+returns-then-not-one_resolved c =
     let v = view_in c.args.self.now in
     let keys = c.args.keys.now in
     let p = every (resolved (fields_at c.args.self.now c.args.input.0)) in
-    sym (c.loop-key.invariant ∙ twice-step p (expr_in v.trees) (λ k. k.by.0) keys c.loop-key.key-index zero c.loop-key-test.true ∙ ap (λ b. b && p (drop (c.loop-key.key-index + 1) (exprs_in v.trees (key_numbers keys)))) (sym c.if-not-one-resolved.ensures))
+    sym (c.loop-key.invariant ∙ twice-step p (expr_in v.trees) (λ k. k.by.0) keys c.loop-key.key-index zero c.loop-key-test.true ∙ ap (λ b. b && p (drop (c.loop-key.key-index + 1) (exprs_in v.trees (key_numbers keys)))) (sym c.if-not-one_resolved.ensures))
 
 pub loop-key-preserved : goal.loop-key-preserved
 loop-key-preserved c =
     let v = view_in c.args.self.now in
     let keys = c.args.keys.now in
     let p = every (resolved (fields_at c.args.self.now c.args.input.0)) in
-    c.loop-key.invariant ∙ twice-step p (expr_in v.trees) (λ k. k.by.0) keys c.loop-key.key-index zero c.loop-key-test.true ∙ ap (λ b. b && p (drop (c.loop-key.key-index + 1) (exprs_in v.trees (key_numbers keys)))) (sym c.if-not-one-resolved.ensures)
+    c.loop-key.invariant ∙ twice-step p (expr_in v.trees) (λ k. k.by.0) keys c.loop-key.key-index zero c.loop-key-test.true ∙ ap (λ b. b && p (drop (c.loop-key.key-index + 1) (exprs_in v.trees (key_numbers keys)))) (sym c.if-not-one_resolved.ensures)
 
 pub returns : goal.returns
 returns c =

@@ -12,6 +12,6 @@ returns c =
     let t = c.args.self.now in
     plan-answers t (Limit c.args.input c.args.skip c.args.count) (make_limit c.args.input.0 c.args.skip c.args.count) ((Present, _) ∷ [])
     (record { asks = refl; own_first = refl; exprs = refl; plans = refl; costs = refl; number = refl })
-    (sym c.has.ensures ∙ c.in-ok-ask.ensures, tt)
+    (sym c.has.ensures ∙ c.in_ok-ask.ensures, tt)
     c.make.result _
-    (subst (λ n. NodeMade t n c.make.result (model_of c.make.new.self)) c.limit-node.ensures c.make.ensures)
+    (subst (λ n. NodeMade t n c.make.result (model_of c.make.new.self)) c.limit_node.ensures c.make.ensures)

@@ -6,16 +6,16 @@ use Rattle.terms.proofs.Walks.{every-both}
 use Rattle.book.specs.Holding.{view_in, fields_at}
 use Rattle.book.proofs.tables.OpenBook.lists_resolved.Goals as goal
 
-pub returns-then-not-list-resolved : goal.returns-then-not-list-resolved
-returns-then-not-list-resolved c =
+pub returns-then-not-list_resolved : goal.returns-then-not-list_resolved
+returns-then-not-list_resolved c =
     let v = view_in c.args.self.now in
     let p = resolved (fields_at c.args.self.now c.args.input.0) in
     let us = exprs_in v.trees (numbers_of c.args.second.now) in
-    sym (every-both p (exprs_in v.trees (numbers_of c.args.first.now)) us ∙ ap (λ b. b && every p us) (sym c.if-not-list-resolved.ensures))
+    sym (every-both p (exprs_in v.trees (numbers_of c.args.first.now)) us ∙ ap (λ b. b && every p us) (sym c.if-not-list_resolved.ensures))
 
 pub returns : goal.returns
 returns c =
     let v = view_in c.args.self.now in
     let p = resolved (fields_at c.args.self.now c.args.input.0) in
     let us = exprs_in v.trees (numbers_of c.args.second.now) in
-    c.list-resolved-2.ensures ∙ sym (every-both p (exprs_in v.trees (numbers_of c.args.first.now)) us ∙ ap (λ b. b && every p us) (sym c.if-not-list-resolved.ensures))
+    c.list_resolved-2.ensures ∙ sym (every-both p (exprs_in v.trees (numbers_of c.args.first.now)) us ∙ ap (λ b. b && every p us) (sym c.if-not-list_resolved.ensures))

@@ -12,8 +12,8 @@ use Rattle.book.proofs.tables.OpenBook.names_bytes.Goals as goal
 abbrev zero : ExprId
 zero = record { 0 = 0 }
 
-pub name-bytes-requires : goal.name-bytes-requires
-name-bytes-requires c = one_below (length (view_in c.args.self.now).trees) c.args.ids.now c.loop-id.id-index zero c.loop-id-test.true c.requires.present
+pub name_bytes-requires : goal.name_bytes-requires
+name_bytes-requires c = one_below (length (view_in c.args.self.now).trees) c.args.ids.now c.loop-id.id-index zero c.loop-id-test.true c.requires.present
 
 pub loop-id-preserved : goal.loop-id-preserved
 loop-id-preserved c =
@@ -23,7 +23,7 @@ loop-id-preserved c =
     let e = expr_in v.trees (get_or ids c.loop-id.id-index zero).0 in
     let s = twice-step (sum_by f) (expr_in v.trees) (λ x. x.0) ids c.loop-id.id-index zero c.loop-id-test.true in
     let k = sum_by-cons f e (drop (c.loop-id.id-index + 1) (exprs_in v.trees (numbers_of ids))) in
-    (omega (arith, c.loop-id.invariant.0, s, k, c.name-bytes.ensures.value), omega (arith, c.loop-id.invariant.1, c.name-bytes.ensures.bound))
+    (omega (arith, c.loop-id.invariant.0, s, k, c.name_bytes.ensures.value), omega (arith, c.loop-id.invariant.1, c.name_bytes.ensures.bound))
 
 pub returns : goal.returns
 returns c =

@@ -15,8 +15,8 @@ pub make-requires : goal.make-requires
 make-requires c =
     let l = c.args.list.now in
     record {
-      present = sym c.has-list.ensures ∙ c.in-ok-ask.ensures;
-      bounded = subst (λ n. leb n 64 ≡ true) (length-map l (λ e. e.0)) (and_parts (leb 1 (length (numbers_of l))) _ (sym c.is-between.ensures ∙ c.in-ok-ask-2.ensures)).1;
+      present = sym c.has_list.ensures ∙ c.in_ok-ask.ensures;
+      bounded = subst (λ n. leb n 64 ≡ true) (length-map l (λ e. e.0)) (and_parts (leb 1 (length (numbers_of l))) _ (sym c.is_between.ensures ∙ c.in_ok-ask-2.ensures)).1;
       named = refl;
     }
 
@@ -25,6 +25,6 @@ returns c =
     let t = c.args.self.now in
     plan-answers t (Projection c.args.input c.args.list) (make_projection c.args.input.0 (numbers_of c.args.list.now)) ((Present, _) ∷ (Bounded, _) ∷ (Placed, _) ∷ [])
     (record { asks = refl; own_first = refl; exprs = refl; plans = refl; costs = ap (λ k. node_outlay (view_in t).functions (tree_for t (Projection c.args.input c.args.list)) k 0) (length-map c.args.list.now (λ e. e.0)); number = refl })
-    (sym c.has-list.ensures ∙ c.in-ok-ask.ensures, (sym c.is-between.ensures ∙ c.in-ok-ask-2.ensures, (ap not (sym c.any-total.ensures) ∙ c.in-ok-ask-3.ensures, tt)))
+    (sym c.has_list.ensures ∙ c.in_ok-ask.ensures, (sym c.is_between.ensures ∙ c.in_ok-ask-2.ensures, (ap not (sym c.any_total.ensures) ∙ c.in_ok-ask-3.ensures, tt)))
     c.make.result _
     c.make.ensures

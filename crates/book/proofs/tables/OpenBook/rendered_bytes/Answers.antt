@@ -15,6 +15,6 @@ returns-in-Aggregate c =
     let xs = exprs_in (view_in t).trees (numbers_of c.in-Aggregate.groups.now) in
     let ys = exprs_in (view_in t).trees (numbers_of c.in-Aggregate.totals.now) in
     record {
-      value = ap₂ (λ x y. x + y) c.names-bytes-in-Aggregate.ensures.value c.names-bytes-in-Aggregate-2.ensures.value ∙ sym (ap (λ n. sum_by f (shown_expressions (tree_for t n))) c.in-Aggregate.is ∙ sum_by-append f xs ys);
-      bound = omega (arith, c.names-bytes-in-Aggregate.ensures.bound, c.names-bytes-in-Aggregate-2.ensures.bound);
+      value = ap₂ (λ x y. x + y) c.names_bytes-in-Aggregate.ensures.value c.names_bytes-in-Aggregate-2.ensures.value ∙ sym (ap (λ n. sum_by f (shown_expressions (tree_for t n))) c.in-Aggregate.is ∙ sum_by-append f xs ys);
+      bound = omega (arith, c.names_bytes-in-Aggregate.ensures.bound, c.names_bytes-in-Aggregate-2.ensures.bound);
     }

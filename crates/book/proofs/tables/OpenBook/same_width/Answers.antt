@@ -7,4 +7,4 @@ use Rattle.book.proofs.tables.OpenBook.same_width.Goals as goal
 pub returns : goal.returns
 returns c =
     let f = stored_field (view_in c.args.self.now).bytes in
-    ap₂ eqb (sym (length-map c.fields-of.result.now f) ∙ ap length c.fields-of.ensures.value) (sym (length-map c.fields-of-2.result.now f) ∙ ap length c.fields-of-2.ensures.value)
+    ap₂ eqb (sym (length-map c.fields_of.result.now f) ∙ ap length c.fields_of.ensures.value) (sym (length-map c.fields_of-2.result.now f) ∙ ap length c.fields_of-2.ensures.value)

@@ -10,16 +10,16 @@ use Rattle.book.proofs.tables.OpenBook.sizes_of.Goals as goal
 abbrev zero : PlanId
 zero = record { 0 = 0 }
 
-pub size-of-total-requires : goal.size-of-total-requires
-size-of-total-requires c = input-below (plan_count c.args.self.now) c.args.inputs.now c.loop-p.p-index zero c.loop-p-test.true c.requires.present
+pub size_of-total-requires : goal.size_of-total-requires
+size_of-total-requires c = input-below (plan_count c.args.self.now) c.args.inputs.now c.loop-p.p-index zero c.loop-p-test.true c.requires.present
 
 pub overflow_add-total : goal.overflow_add-total
-overflow_add-total c = omega (arith, c.loop-p.invariant.1, c.size-of-total.ensures.bound, c.requires.few, c.loop-p-test.true)
+overflow_add-total c = omega (arith, c.loop-p.invariant.1, c.size_of-total.ensures.bound, c.requires.few, c.loop-p-test.true)
 
 pub loop-p-preserved : goal.loop-p-preserved
 loop-p-preserved c =
     let s = twice-step (λ ts. plan_sizes_of (further_inputs ts)) (plan_in (trees_in c.args.self.now)) (λ p. p.0) c.args.inputs.now c.loop-p.p-index zero c.loop-p-test.true in
-    (omega (arith, c.loop-p.invariant.0, s, c.size-of-total.ensures.value), omega (arith, c.loop-p.invariant.1, c.size-of-total.ensures.bound))
+    (omega (arith, c.loop-p.invariant.0, s, c.size_of-total.ensures.value), omega (arith, c.loop-p.invariant.1, c.size_of-total.ensures.bound))
 
 pub returns : goal.returns
 returns c =

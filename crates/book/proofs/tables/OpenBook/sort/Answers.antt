@@ -11,24 +11,24 @@ use Rattle.book.proofs.NodeAnswers.{plan-answers}
 use Rattle.book.proofs.SortFacts.{sorted-numbers, sort-makes, sort_asked}
 use Rattle.book.proofs.tables.OpenBook.sort.Goals as goal
 
-pub any-key-total-requires : goal.any-key-total-requires
-any-key-total-requires c =
-    (and_parts (below (plan_count c.args.self.now) c.args.input.0) _ (sym c.has-sorted.ensures ∙ c.in-ok-ask.ensures)).1
+pub any_key_total-requires : goal.any_key_total-requires
+any_key_total-requires c =
+    (and_parts (below (plan_count c.args.self.now) c.args.input.0) _ (sym c.has_sorted.ensures ∙ c.in_ok-ask.ensures)).1
 
-pub sort-keys-given-requires : goal.sort-keys-given-requires
-sort-keys-given-requires c =
+pub sort_keys-given-requires : goal.sort_keys-given-requires
+sort_keys-given-requires c =
     let ks = c.args.keys.now in
-    let few = (and_parts (between 1 16 (length (key_pairs ks))) _ (sym c.are-keys.ensures ∙ c.in-ok-ask-2.ensures)).0 in
+    let few = (and_parts (between 1 16 (length (key_pairs ks))) _ (sym c.are_keys.ensures ∙ c.in_ok-ask-2.ensures)).0 in
     omega (arith, length-map ks key_pair, leb-true _ _ (and_parts (leb 1 (length (key_pairs ks))) _ few).1)
 
 pub make-requires : goal.make-requires
 make-requires c =
     let t = c.args.self.now in
     let ks = c.args.keys.now in
-    let few = (and_parts (between 1 16 (length (key_pairs ks))) _ (sym c.are-keys.ensures ∙ c.in-ok-ask-2.ensures)).0 in
-    let e = c.as-slice.ensures ∙ c.sort-keys-given.ensures in
+    let few = (and_parts (between 1 16 (length (key_pairs ks))) _ (sym c.are_keys.ensures ∙ c.in_ok-ask-2.ensures)).0 in
+    let e = c.as_slice.ensures ∙ c.sort_keys-given.ensures in
     record {
-      present = ap (λ l. below (plan_count t) c.args.input.0 && all_below (length (view_in t).trees) l) (ap key_numbers e ∙ sorted-numbers ks) ∙ sym c.has-sorted.ensures ∙ c.in-ok-ask.ensures;
+      present = ap (λ l. below (plan_count t) c.args.input.0 && all_below (length (view_in t).trees) l) (ap key_numbers e ∙ sorted-numbers ks) ∙ sym c.has_sorted.ensures ∙ c.in_ok-ask.ensures;
       bounded = ap (λ n. leb n 16) (ap length e ∙ length-map ks sort_key ∙ sym (length-map ks key_pair)) ∙ (and_parts (leb 1 (length (key_pairs ks))) _ few).1;
       named = refl;
     }
@@ -37,8 +37,8 @@ pub returns : goal.returns
 returns c =
     let t = c.args.self.now in
     let ks = c.args.keys.now in
-    plan-answers t (Sort c.args.input c.as-slice.result) (make_sort c.args.input.0 (key_pairs ks)) (sort_asked t c.args.input ks)
-    (sort-makes t c.args.input c.as-slice.result ks (c.as-slice.ensures ∙ c.sort-keys-given.ensures))
-    (sym c.has-sorted.ensures ∙ c.in-ok-ask.ensures, (sym c.are-keys.ensures ∙ c.in-ok-ask-2.ensures, (ap not (sym c.any-key-total.ensures) ∙ c.in-ok-ask-3.ensures, tt)))
+    plan-answers t (Sort c.args.input c.as_slice.result) (make_sort c.args.input.0 (key_pairs ks)) (sort_asked t c.args.input ks)
+    (sort-makes t c.args.input c.as_slice.result ks (c.as_slice.ensures ∙ c.sort_keys-given.ensures))
+    (sym c.has_sorted.ensures ∙ c.in_ok-ask.ensures, (sym c.are_keys.ensures ∙ c.in_ok-ask-2.ensures, (ap not (sym c.any_key_total.ensures) ∙ c.in_ok-ask-3.ensures, tt)))
     c.make.result _
     c.make.ensures

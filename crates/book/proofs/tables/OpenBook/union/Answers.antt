@@ -10,15 +10,15 @@ use Rattle.book.specs.declared.node.NewNode.TheVariants.{Union}
 use Rattle.book.proofs.NodeAnswers.{plan-answers}
 use Rattle.book.proofs.tables.OpenBook.union.Goals as goal
 
-pub are-alike-requires : goal.are-alike-requires
-are-alike-requires c = sym c.has-inputs.ensures ∙ c.in-ok-ask.ensures
+pub are_alike-requires : goal.are_alike-requires
+are_alike-requires c = sym c.has_inputs.ensures ∙ c.in_ok-ask.ensures
 
 pub make-requires : goal.make-requires
 make-requires c =
     let ps = c.args.inputs.now in
     record {
-      present = sym c.has-inputs.ensures ∙ c.in-ok-ask.ensures;
-      bounded = subst (λ n. between 1 8 n ≡ true) (length-map ps (λ p. p.0)) (and_parts (between 1 8 (length (input_numbers ps))) _ (sym c.are-alike.ensures ∙ c.in-ok-ask-2.ensures)).0;
+      present = sym c.has_inputs.ensures ∙ c.in_ok-ask.ensures;
+      bounded = subst (λ n. between 1 8 n ≡ true) (length-map ps (λ p. p.0)) (and_parts (between 1 8 (length (input_numbers ps))) _ (sym c.are_alike.ensures ∙ c.in_ok-ask-2.ensures)).0;
       named = refl;
     }
 
@@ -28,6 +28,6 @@ returns c =
     let ps = c.args.inputs.now in
     plan-answers t (Union c.args.inputs) (make_union (input_numbers ps)) ((Present, _) ∷ (Bounded, _) ∷ [])
     (record { asks = refl; own_first = refl; exprs = refl; plans = refl; costs = ap (λ k. node_outlay (view_in t).functions (tree_for t (Union c.args.inputs)) k 0) (length-map ps (λ p. p.0)); number = refl })
-    (sym c.has-inputs.ensures ∙ c.in-ok-ask.ensures, (sym c.are-alike.ensures ∙ c.in-ok-ask-2.ensures, tt))
+    (sym c.has_inputs.ensures ∙ c.in_ok-ask.ensures, (sym c.are_alike.ensures ∙ c.in_ok-ask-2.ensures, tt))
     c.make.result _
     c.make.ensures

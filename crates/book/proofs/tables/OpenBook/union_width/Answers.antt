@@ -7,10 +7,10 @@ use Rattle.book.proofs.tables.OpenBook.union_width.Goals as goal
 abbrev zero : PlanId
 zero = record { 0 = 0 }
 
-pub width-of-requires : goal.width-of-requires
-width-of-requires c = input-below (plan_count c.args.self.now) c.args.inputs.now 0 zero c.requires.some c.requires.present
+pub width_of-requires : goal.width_of-requires
+width_of-requires c = input-below (plan_count c.args.self.now) c.args.inputs.now 0 zero c.requires.some c.requires.present
 
 pub returns : goal.returns
 returns c =
     let t = c.args.self.now in
-    record { value = c.width-of.ensures.value ∙ sym (union-width (view_in t).functions (trees_in t) c.args.inputs.now zero c.requires.some); bound = c.width-of.ensures.bound }
+    record { value = c.width_of.ensures.value ∙ sym (union-width (view_in t).functions (trees_in t) c.args.inputs.now zero c.requires.some); bound = c.width_of.ensures.bound }

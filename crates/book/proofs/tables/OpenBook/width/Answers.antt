@@ -18,8 +18,8 @@ width_for t n = length (fields_of (view_in t).functions (tree_for t n))
 pub returns-in-Table : goal.returns-in-Table
 returns-in-Table c =
     record {
-      value = c.count-parts.ensures ∙ sym (ap (width_for c.args.self.now) c.in-Table.is ∙ length-map (parts c.in-Table.names.now) _);
-      bound = omega (arith, c.count-parts.ensures, table-few c.args.node c.requires.bounded _ _ c.in-Table.is);
+      value = c.count_parts.ensures ∙ sym (ap (width_for c.args.self.now) c.in-Table.is ∙ length-map (parts c.in-Table.names.now) _);
+      bound = omega (arith, c.count_parts.ensures, table-few c.args.node c.requires.bounded _ _ c.in-Table.is);
     }
 
 pub returns-in-Projection : goal.returns-in-Projection
@@ -48,6 +48,6 @@ pub returns-in-SubqueryAlias : goal.returns-in-SubqueryAlias
 returns-in-SubqueryAlias c =
     let t = c.args.self.now in
     record {
-      value = c.width-of-in-SubqueryAlias.ensures.value ∙ sym (ap (width_for t) c.in-SubqueryAlias.is ∙ length-map (fields_at t c.in-SubqueryAlias.input.0) _);
-      bound = omega (arith, c.width-of-in-SubqueryAlias.ensures.bound);
+      value = c.width_of-in-SubqueryAlias.ensures.value ∙ sym (ap (width_for t) c.in-SubqueryAlias.is ∙ length-map (fields_at t c.in-SubqueryAlias.input.0) _);
+      bound = omega (arith, c.width_of-in-SubqueryAlias.ensures.bound);
     }

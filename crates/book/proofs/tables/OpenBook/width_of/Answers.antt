@@ -7,6 +7,6 @@ use Rattle.book.proofs.tables.OpenBook.width_of.Goals as goal
 pub returns : goal.returns
 returns c =
     record {
-      value = sym (length-map c.fields-of.result.now (stored_field (view_in c.args.self.now).bytes)) ∙ ap length c.fields-of.ensures.value;
-      bound = c.fields-of.ensures.few;
+      value = sym (length-map c.fields_of.result.now (stored_field (view_in c.args.self.now).bytes)) ∙ ap length c.fields_of.ensures.value;
+      bound = c.fields_of.ensures.few;
     }

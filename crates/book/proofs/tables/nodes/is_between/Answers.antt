@@ -4,4 +4,4 @@ use Rattle.plan.specs.Calls.{between}
 use Rattle.book.proofs.tables.nodes.is_between.Goals as goal
 
 pub returns : goal.returns
-returns c = c.is-count.ensures ∙ ap (between c.args.low c.args.high) (sym (length-map c.args.ids.now (λ e. e.0)))
+returns c = c.is_count.ensures ∙ ap (between c.args.low c.args.high) (sym (length-map c.args.ids.now (λ e. e.0)))

@@ -11,22 +11,22 @@ use Rattle.book.proofs.tables.wider.all_total.Goals as goal
 abbrev zero : ExprId
 zero = record { 0 = 0 }
 
-pub is-total-requires : goal.is-total-requires
-is-total-requires c = one_below (length (view_of c.args.terms.now).trees) c.args.ids.now c.loop-id.id-index zero c.loop-id-test.true c.requires
+pub is_total-requires : goal.is_total-requires
+is_total-requires c = one_below (length (view_of c.args.terms.now).trees) c.args.ids.now c.loop-id.id-index zero c.loop-id-test.true c.requires
 
-pub returns-then-not-is-total : goal.returns-then-not-is-total
-returns-then-not-is-total c =
+pub returns-then-not-is_total : goal.returns-then-not-is_total
+returns-then-not-is_total c =
     let v = view_of c.args.terms.now in
     let ids = c.args.ids.now in
     let p = every (is_total v.functions) in
-    sym (c.loop-id.invariant ∙ twice-step p (expr_in v.trees) (λ e. e.0) ids c.loop-id.id-index zero c.loop-id-test.true ∙ ap (λ b. b && p (drop (c.loop-id.id-index + 1) (exprs_in v.trees (numbers_of ids)))) (sym c.if-not-is-total.ensures))
+    sym (c.loop-id.invariant ∙ twice-step p (expr_in v.trees) (λ e. e.0) ids c.loop-id.id-index zero c.loop-id-test.true ∙ ap (λ b. b && p (drop (c.loop-id.id-index + 1) (exprs_in v.trees (numbers_of ids)))) (sym c.if-not-is_total.ensures))
 
 pub loop-id-preserved : goal.loop-id-preserved
 loop-id-preserved c =
     let v = view_of c.args.terms.now in
     let ids = c.args.ids.now in
     let p = every (is_total v.functions) in
-    c.loop-id.invariant ∙ twice-step p (expr_in v.trees) (λ e. e.0) ids c.loop-id.id-index zero c.loop-id-test.true ∙ ap (λ b. b && p (drop (c.loop-id.id-index + 1) (exprs_in v.trees (numbers_of ids)))) (sym c.if-not-is-total.ensures)
+    c.loop-id.invariant ∙ twice-step p (expr_in v.trees) (λ e. e.0) ids c.loop-id.id-index zero c.loop-id-test.true ∙ ap (λ b. b && p (drop (c.loop-id.id-index + 1) (exprs_in v.trees (numbers_of ids)))) (sym c.if-not-is_total.ensures)
 
 pub returns : goal.returns
 returns c =

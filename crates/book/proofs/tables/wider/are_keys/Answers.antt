@@ -6,12 +6,12 @@ use Rattle.plan.specs.Fields.{every}
 use Rattle.book.specs.Keys.{key_pair, key_pairs}
 use Rattle.book.proofs.tables.wider.are_keys.Goals as goal
 
-pub returns-then-not-is-count : goal.returns-then-not-is-count
-returns-then-not-is-count c =
+pub returns-then-not-is_count : goal.returns-then-not-is_count
+returns-then-not-is_count c =
     let ks = c.args.keys.now in
-    ap (λ b. b && every (λ k. is_some (direction_of k.1)) (key_pairs ks)) (c.if-not-is-count.ensures ∙ ap (between 1 16) (sym (length-map ks key_pair)))
+    ap (λ b. b && every (λ k. is_some (direction_of k.1)) (key_pairs ks)) (c.if-not-is_count.ensures ∙ ap (between 1 16) (sym (length-map ks key_pair)))
 
 pub returns : goal.returns
 returns c =
     let ks = c.args.keys.now in
-    c.all-directed.ensures ∙ ap (λ b. b && every (λ k. is_some (direction_of k.1)) (key_pairs ks)) (c.if-not-is-count.ensures ∙ ap (between 1 16) (sym (length-map ks key_pair)))
+    c.all_directed.ensures ∙ ap (λ b. b && every (λ k. is_some (direction_of k.1)) (key_pairs ks)) (c.if-not-is_count.ensures ∙ ap (between 1 16) (sym (length-map ks key_pair)))

@@ -13,7 +13,7 @@ push-requires c =
     (lit< tt, omega (arith, c.requires, copied-length sort_key [] c.args.keys.now c.loop-key.key-index _ (omega arith) c.loop-key.invariant))
 
 pub loop-key-preserved : goal.loop-key-preserved
-loop-key-preserved c = copied_more sort_key [] c.args.keys.now c.loop-key.key-index zero _ _ (omega arith) c.loop-key.invariant (c.push.ensures ∙ ap (λ k. contents c.loop-key.out ++ k ∷ []) c.sort-key.ensures)
+loop-key-preserved c = copied_more sort_key [] c.args.keys.now c.loop-key.key-index zero _ _ (omega arith) c.loop-key.invariant (c.push.ensures ∙ ap (λ k. contents c.loop-key.out ++ k ∷ []) c.sort_key.ensures)
 
 pub returns : goal.returns
 returns c = copied_all sort_key [] c.args.keys.now c.loop-key.key-index _ (omega arith) c.loop-key.invariant
