@@ -50,7 +50,7 @@ invariant_of-self c =
     let x = c.place-placed.result in
     let st = stored-for w (view_of c.store.new.terms) _ _ _ ds (contents t.fields) (contents c.store.new.fields) c.as_slice.ensures c.store.ensures in
     let k = added-facts t n c.len.result ds c.draft_shown.ensures w x c.place-placed.ensures (c.len.ensures.value ∙ sym (counted t)) (view_of c.store.new.terms) (contents c.store.new.fields) st c.requires.limited _ refl _ _ _ c.len-first.ensures.value c.len-count.ensures.value c.tree_size-size.ensures (contents c.push.new.self) c.push.ensures in
-    (k.are-stored, (k.are-sound, (k.are-fielded, (k.have-sizes, tt))))
+    record { stored = k.are-stored; sound = k.are-sound; fielded = k.are-fielded; sizes = k.have-sizes }
 
 pub returns : goal.returns
 returns c =

@@ -13,7 +13,7 @@ pub invariant_of-self : goal.invariant_of-self
 invariant_of-self c =
     let t = c.args.self.now in
     let k = facts-answered (view_in t) (view_of c.text.new.self) (make_literal (text_literal c.args.bytes.now)) c.text.result (contents t.fields) (contents t.plans) c.text.ensures (facts-in t) in
-    (k.are-stored, (k.are-sound, (k.are-fielded, (k.have-sizes, tt))))
+    record { stored = k.are-stored; sound = k.are-sound; fielded = k.are-fielded; sizes = k.have-sizes }
 
 pub returns : goal.returns
 returns c =

@@ -13,7 +13,7 @@ pub invariant_of-self : goal.invariant_of-self
 invariant_of-self c =
     let t = c.args.self.now in
     let k = facts-answered (view_in t) (view_of c.truth.new.self) (make_literal (truth_literal c.args.b)) c.truth.result (contents t.fields) (contents t.plans) c.truth.ensures (facts-in t) in
-    (k.are-stored, (k.are-sound, (k.are-fielded, (k.have-sizes, tt))))
+    record { stored = k.are-stored; sound = k.are-sound; fielded = k.are-fielded; sizes = k.have-sizes }
 
 pub returns : goal.returns
 returns c =

@@ -19,7 +19,7 @@ pub invariant_of-self : goal.invariant_of-self
 invariant_of-self c =
     let t = c.args.self.now in
     let k = facts-answered (view_in t) (view_of c.whole.new.self) (make_literal (whole_literal c.args.n)) c.whole.result (contents t.fields) (contents t.plans) (said (view_in c.args.self.now) (view_of c.whole.new.self) c.whole.result c.args.n _ (to_z-of_z w64 c.args.n c.ranges.n) c.whole.ensures) (facts-in t) in
-    (k.are-stored, (k.are-sound, (k.are-fielded, (k.have-sizes, tt))))
+    record { stored = k.are-stored; sound = k.are-sound; fielded = k.are-fielded; sizes = k.have-sizes }
 
 pub returns : goal.returns
 returns c =
