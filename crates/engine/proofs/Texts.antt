@@ -1,9 +1,9 @@
 -- Texts that are there, compared by their bytes.
-use Rattle.std.proofs.Common.{◌≡◌, ℕ, Bool, List, Some, None, Decides, refl, ap, ◌∙◌}
-use Rattle.std.specs.Cmp.Lexicographic.{Matches}
+use Rattle.std.proofs.Common.{◌≡◌, ℕ, nat_eq, Bool, List, Some, ◌∙◌}
+use Rattle.std.specs.Cmp.Lexicographic.{pointwise, bytes_decides}
 use Rattle.std.specs.Str.{bytes_eq}
-use Rattle.std.proofs.lemmas.Slice.Eq.{slice_eq-Decides, bytes_eq-Decides}
-use Rattle.std.proofs.lemmas.Bool.Decides.{same_from_decides, Decides-eqb}
+use Rattle.std.proofs.lemmas.Slice.Eq.{bytes_eq-Decides}
+use Rattle.std.proofs.lemmas.Bool.Decides.{same_from_decides}
 use Rattle.plan.specs.Values.{Value}
 use Rattle.plan.specs.Values.Value.{null, truth, whole, real, text, record_number}
 use Rattle.value.specs.Meanings.{bytes_of}
@@ -17,8 +17,8 @@ text_of (real x) u h = cc
 text_of (text t) u h = cc
 text_of (record_number k) u h = cc
 
-pub matched : (xs ys : List ℕ) (r : Bool) → Matches (λ (a b : ℕ) (t : Bool). Decides t (a ≡ b)) xs ys r → r ≡ bytes_eq xs ys
-matched xs ys r m = same_from_decides r (bytes_eq xs ys) (slice_eq-Decides Decides-eqb xs ys r m) (bytes_eq-Decides xs ys)
+pub matched : (xs ys : List ℕ) (r : Bool) → r ≡ pointwise nat_eq xs ys → r ≡ bytes_eq xs ys
+matched xs ys r m = m ∙ same_from_decides (pointwise nat_eq xs ys) (bytes_eq xs ys) (bytes_decides xs ys) (bytes_eq-Decides xs ys)
 
 pub texts-same : (a b : Value) (u v : List ℕ) (r : Bool) → bytes_of a ≡ Some u → bytes_of b ≡ Some v → r ≡ bytes_eq u v → r ≡ same_texts a b
 texts-same a b u v r p q e = rw (text_of a u p, text_of b v q) e

@@ -2,7 +2,7 @@
 --     if_truth other f v, if_whole, if_real, if_text, if_record      f of what v holds if it is of that kind, else other
 --     is_false v      whether v is the truth value false
 --     of_one f vs, of_two f vs      f of one or of two arguments; null at any other count
-use Rattle.std.specs.Prelude.{ℕ, Bool, true, false, not, List, [], ◌∷◌, ℤ, Float}
+use Rattle.std.specs.Prelude.{ℕ, Bool, false, not, List, [], ◌∷◌, ℤ, Float}
 use Rattle.plan.specs.Values.{Value}
 use Rattle.plan.specs.Values.Value.{null, truth, whole, real, text, record_number}
 

@@ -1,4 +1,6 @@
 //! Engines: what values the calls of declared functions.
+#![tactic(auto)]
+
 ghost use Rattle.std.specs.Prelude.{◌≡◌, ℕ, Bool, map};
 ghost use Rattle.engine.specs.Strictness.{Meaning, Nulls};
 ghost use Rattle.value.specs.Meanings.{meaning_of};

@@ -1,4 +1,6 @@
 //! The values of rows. A text is not copied: a value says which bytes of one of two lent texts it is.
+#![tactic(auto)]
+
 ghost use Rattle.plan.specs.Values.{is_null_value};
 ghost use Rattle.value.specs.Meanings.{Shows, bytes_of, meaning_of};
 ghost use Rattle.std.specs.Prelude.{◌≡◌};
