@@ -8,7 +8,6 @@ use Rattle.std.specs.List.{AllByRecursion as All}
 use Rattle.plan.specs.Calls.{Call, Made, asked, below, new_plans, new_trees}
 use Rattle.plan.specs.Calls.Call.{make_aggregate, make_alias, make_call, make_filter, make_join, make_limit, make_literal, make_projection, make_reference, make_sort, make_subquery_alias, make_table, make_union}
 use Rattle.plan.specs.Faults.{first_no}
-use Rattle.plan.specs.Fields.{resolved}
 use Rattle.plan.specs.Functions.{Functions}
 use Rattle.plan.specs.Model.{Model, Node, Space, no_plan}
 use Rattle.plan.specs.Names.{Name, number_of}
@@ -27,7 +26,6 @@ use Rattle.rewriting.proofs.Laws.{good-resolved}
 use Rattle.rewriting.proofs.Marked.{extract-leaves-nothing}
 use Rattle.rewriting.proofs.PushKeeps.{push-keeps}
 use Rattle.rewriting.proofs.Swapping.{swap-good, swap-same}
-use Rattle.rewriting.proofs.Swaps.{same}
 use Rattle.rewriting.proofs.Totals.{extract-keeps}
 use Rattle.rewriting.specs.Book.{Added, Agree, Answers, Law, Leaves, Reply, Request, Rewrites, Run, Standing, State, Step, build, count_of, extract, inputs_at, inputs_of, made, new_inputs, no_node, node_at, opened, origin_at, push_down, refused, swap, swap_asked, tree_at, unchanged, with_input}
 use Rattle.rewriting.specs.Extracting.{Outcome}

@@ -7,7 +7,7 @@ use Rattle.std.specs.List.{AllByRecursion as All}
 use Rattle.plan.specs.Calls.{Call, all_below, asked, below, between, equal_widths, new_trees}
 use Rattle.plan.specs.Calls.Call.{make_aggregate, make_alias, make_call, make_filter, make_join, make_limit, make_literal, make_projection, make_reference, make_sort, make_subquery_alias, make_table, make_union}
 use Rattle.plan.specs.Faults.{Asked, first_no}
-use Rattle.plan.specs.Fields.{any, every, resolves}
+use Rattle.plan.specs.Fields.{any, every}
 use Rattle.plan.specs.Functions.{Functions, is_total}
 use Rattle.plan.specs.Model.{Model, exprs_in, plan_in, plans_in, trees_of}
 use Rattle.plan.specs.Plans.{Plan, fields_of, further_inputs}

@@ -23,7 +23,6 @@ use Rattle.rows.proofs.More.{get_or-map-in, pick-through, stands-through, throug
 use Rattle.rows.proofs.Resolving.{field-eq}
 use Rattle.rows.proofs.Wide.{Wide, cut_all, rows-wide}
 use Rattle.rows.proofs.Words.{eval, evals, rows}
-use Rattle.rows.specs.Lists.{place}
 use Rattle.rows.specs.Rows.{may_mean, rows_of, seek, value_in}
 use Rattle.rows.specs.Standing.{Covers, Known, Lawful, Stands, at, pick, refs, up_from}
 use Rattle.rows.specs.Worlds.{Fitting, Row, applied}

@@ -22,7 +22,6 @@ use Rattle.rows.proofs.Resolving.{any_place}
 use Rattle.rows.proofs.Sides.{eval_left, eval_right}
 use Rattle.rows.proofs.Wide.{Wide, all-lone, all-pairs, all-pairs_padded, nulls-wide, rows-wide}
 use Rattle.rows.proofs.Words.{eval, rows}
-use Rattle.rows.specs.Lists.{place}
 use Rattle.rows.specs.Rows.{joined, lone, matches, may_mean, nulls, pairs, pairs_padded, rows_of, seek}
 use Rattle.rows.specs.Standing.{Known, Knowns, Means, Stands, at, pads_left, pads_right, pick}
 use Rattle.rows.specs.Worlds.{Fitting, Row}

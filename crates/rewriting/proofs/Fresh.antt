@@ -1,7 +1,7 @@
 -- Generated aliases: the number that is written is the number that is read, so a new number makes a new name.
 use Rattle.std.proofs.Common.{◌≡◌, ℕ, zero, suc, ◌+◌, ◌/◌, ◌%◌, ◌^◌, ◌<◌, ◌≤◌, max, Bool, true, false, cond, not, T, eqb, ltb, leb, List, [], ◌∷◌, length, sym, refl, ap, ◌∙◌, pow-suc, arith, eqb→eq, leb→le}
 use native.Mathlib.Nat.{pow-zero}
-use lib.Dec.{nleb→lt, not_t}
+use lib.Dec.{nleb→lt, not_T}
 use mir.Facts.{and_yes, yes_and}
 use Rattle.std.proofs.ByRecursion.{All-weaker}
 use Rattle.std.specs.List.{AllByRecursion as All}
@@ -32,7 +32,7 @@ digits_onto_lem zero n acc h = h
 digits_onto_lem (suc k) n acc h = digits_onto_lem k (n / 10) ((48 + n % 10) ∷ acc) (yes_and (digit (48 + n % 10)) (digits acc) (digit-yes n) h)
 
 not-this : (a b : ℕ) → b < a → T (not (eqb a b))
-not-this a b h = not_t (eqb a b) (λ t. let p = eqb→eq a b t in omega arith)
+not-this a b h = not_T (eqb a b) (λ t. let p = eqb→eq a b t in omega arith)
 
 plain-digits : (ds : List ℕ) → T (digits ds) → T (plain ds)
 plain-digits [] h = tt

@@ -6,7 +6,6 @@
 --     extract: the rebuilt node stands for P, and the recovery is P      Extracts for Filter, Sort and Join, Totals for Aggregate
 --     push: the list is split and recovered, the node below is rebuilt, the closing is P      Splits, Pushes with Unions, PushKeeps
 use Rattle.std.proofs.Common.{◌≡◌, ◌++◌, subst}
-use Rattle.plan.specs.Fields.{resolved}
 use Rattle.plan.specs.Functions.{Functions}
 use Rattle.plan.specs.Plans.{Plan, Plans, fields_of}
 use Rattle.plan.specs.Plans.Plan.{aggregate, filter, join, limit, projection, sort, subquery_alias, table, union}
@@ -16,7 +15,6 @@ use Rattle.rows.specs.Standing.{Good, Goods, Same}
 use Rattle.rewriting.proofs.Extracts.{Keeping}
 use Rattle.rewriting.proofs.Made.{aggregate-known, filter-known, good-lawful, join-known, project-known, sort-known}
 use Rattle.rewriting.proofs.PushKeeps.{push-keeps}
-use Rattle.rewriting.proofs.Swaps.{same}
 use Rattle.rewriting.proofs.Totals.{extract-keeps}
 use Rattle.rewriting.specs.Extracting.{Outcome, built, extract_from_plan}
 use Rattle.rewriting.specs.Laws.{ExtractLaw, Gives, Kept, PushLaw, Resolved, ResolvedAll}

@@ -3,7 +3,7 @@ use Rattle.std.proofs.Common.{ℕ, Bool, true, false, T, List, [], ◌∷◌, �
 use mir.Facts.{and_yes}
 use Rattle.std.specs.List.{AllByRecursion as All}
 use Rattle.plan.specs.Faults.{first_no}
-use Rattle.plan.specs.Fields.{every, lawful, resolved, resolves}
+use Rattle.plan.specs.Fields.{every, lawful, resolved}
 use Rattle.plan.specs.Functions.{Functions}
 use Rattle.plan.specs.Plans.{Key, Plan, fields_of, shown}
 use Rattle.plan.specs.Plans.Plan.{aggregate, filter, join, limit, projection, sort, subquery_alias, table, union}

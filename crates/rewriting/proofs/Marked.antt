@@ -22,7 +22,6 @@ use Rattle.plan.specs.declared.fault.Question.TheVariants.{Limited}
 use Rattle.plan.specs.declared.fault.Stage.TheVariants.{Extraction, Rebuilt, Recovery}
 use Rattle.rows.proofs.Lists.{all_split}
 use Rattle.rows.specs.Rows.{may_mean, under}
-use Rattle.rows.specs.Standing.{at}
 use Rattle.rewriting.proofs.Fresh.{lower-differs}
 use Rattle.rewriting.proofs.Made.{gives-weaker, made-gives, then-gives}
 use Rattle.rewriting.proofs.Walks.{entered-held}

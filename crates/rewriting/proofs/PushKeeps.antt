@@ -12,7 +12,7 @@ use Rattle.rows.proofs.Extract.{own_row}
 use Rattle.rows.proofs.Lists.{map_same}
 use Rattle.rows.proofs.Wide.{rows-wide}
 use Rattle.rows.proofs.Words.{rows}
-use Rattle.rows.specs.Standing.{Good, Goods, Known, Lawful, Same, Stands, at, pick, refs}
+use Rattle.rows.specs.Standing.{Good, Goods, Known, Lawful, Same, Stands, pick, refs}
 use Rattle.rewriting.proofs.Carries.{carries-filter, carries-limit, carries-sort}
 use Rattle.rewriting.proofs.Equals.{fields-eq}
 use Rattle.rewriting.proofs.Made.{filter-known, good-lawful, made-gives, of_refs, project-known, sort-known, then-gives}

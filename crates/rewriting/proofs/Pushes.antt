@@ -4,7 +4,7 @@ use lib.ListN.{length-map}
 use mir.Facts.{and_yes, yes_and}
 use Rattle.std.proofs.ByRecursion.{All-get_or, All-weaker}
 use Rattle.std.specs.List.{AllByRecursion as All}
-use Rattle.plan.specs.Fields.{every, lawful}
+use Rattle.plan.specs.Fields.{every}
 use Rattle.plan.specs.Functions.{Functions, null_keeping}
 use Rattle.plan.specs.Names.{Name}
 use Rattle.plan.specs.Plans.{Plan, fields_of, qualified_by, shown, shows_left, shows_right}
@@ -26,7 +26,7 @@ use Rattle.rows.proofs.Nulls.{or-either}
 use Rattle.rows.proofs.Resolving.{any_at}
 use Rattle.rows.proofs.Words.{eval, evals, rows}
 use Rattle.rows.specs.Lists.{keep}
-use Rattle.rows.specs.Rows.{holds, may_mean, rows_of, seek, under, value_in}
+use Rattle.rows.specs.Rows.{may_mean, rows_of, seek, under, value_in}
 use Rattle.rows.specs.Standing.{Good, Known, Knowns, Lawful, Passed, at, pads_left, pads_right, pick}
 use Rattle.rows.specs.Worlds.{Fitting, Row, applied}
 use Rattle.rewriting.proofs.Carries.{Carries, Holds, carries-fresh, carries-merge, carries-none, carries-through}

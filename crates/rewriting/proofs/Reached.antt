@@ -2,7 +2,6 @@
 use Rattle.std.proofs.Common.{◌≡◌, ℕ, Bool, true, false, T, ◌⊎◌, List, [], ◌∷◌, ◌++◌, ℤ, refl, ap, subst, inl, inr, arith}
 use lib.Ieee.{Float}
 use Rattle.std.specs.List.{AllByRecursion as All}
-use Rattle.plan.specs.Fields.{resolved, resolves}
 use Rattle.plan.specs.Functions.{Functions}
 use Rattle.plan.specs.Model.{Space}
 use Rattle.plan.specs.Plans.{Plan, Plans, fields_of}
@@ -12,15 +11,12 @@ use Rattle.plan.specs.Terms.{Expr, Exprs, Field, Qualifier}
 use Rattle.plan.specs.Terms.Expr.{alias, call, literal, reference}
 use Rattle.plan.specs.Terms.Exprs.{more, none}
 use Rattle.plan.specs.Terms.Qualifier.{qualified, unqualified}
-use Rattle.rows.proofs.Words.{further}
 use Rattle.rows.specs.Rows.{may_mean, rows_of, seek}
 use Rattle.rows.specs.Standing.{Good, Goods, Known, Knowns, Lawful, Means, Passed, Same, at}
 use Rattle.rewriting.proofs.Book.{law}
-use Rattle.rewriting.proofs.Swaps.{same}
 use Rattle.rewriting.specs.Book.{Agree, Answers, Reply, Request, Run, State, Step, opened, tree_at}
 use Rattle.rewriting.specs.Laws.{Resolved, ResolvedAll}
 use Rattle.rewriting.specs.Reached.{Reached, ReachedHolds}
-use Rattle.rewriting.specs.Worked.{start}
 use mathlib.Core.Logic.{∥∥₁_elim, ∥∥₁_map}
 use base.Stored.{Coded, Coded-set, coded_via, coded_list, coded_ℕ, coded_bool, coded_ℤ, coded_float, coded_unit, coded×, coded⊎}
 use native.Mathlib.Bridge.{le_prop}

@@ -15,7 +15,6 @@ use Rattle.plan.specs.declared.fault.Question.{Question}
 use Rattle.plan.specs.declared.fault.Stage.{Stage}
 use Rattle.plan.specs.declared.fault.Stage.TheVariants.{Extraction, Merge, Rebuilt}
 use Rattle.rows.specs.Lists.{keep}
-use Rattle.rows.specs.Rows.{pairs}
 use Rattle.rows.specs.Standing.{pads_left, pads_right}
 use Rattle.rewriting.specs.Extracting.{Outcome, and_then, build_extraction_projection, built, made, made_if, no_change, refused, stage_of}
 use Rattle.rewriting.specs.Outlay.{Tally, charged, node_space}

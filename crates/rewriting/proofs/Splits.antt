@@ -20,7 +20,6 @@ use Rattle.rows.proofs.Finds.{covers_at, mean-trans, pick_at}
 use Rattle.rows.proofs.Lists.{all_any, all_keep, all_two, map_on, map_with}
 use Rattle.rows.proofs.Resolving.{field-eq}
 use Rattle.rows.proofs.Words.{eval, rows}
-use Rattle.rows.specs.Lists.{place}
 use Rattle.rows.specs.Rows.{rows_of, seek, value_in}
 use Rattle.rows.specs.Standing.{Covers, Good, Known, Passed, Same, Stands, at, pick, up_from}
 use Rattle.rows.specs.Worlds.{Fitting, Row}

@@ -20,8 +20,7 @@ use Rattle.rows.proofs.More.{covers-map, get_or-map-in}
 use Rattle.rows.proofs.Resolving.{reference-known}
 use Rattle.rows.proofs.Wide.{Wide, rows-wide}
 use Rattle.rows.proofs.Words.{eval, further, rows}
-use Rattle.rows.specs.Lists.{place}
-use Rattle.rows.specs.Rows.{fit, holds, may_mean, nulls, rows_of, seek, under}
+use Rattle.rows.specs.Rows.{fit, may_mean, nulls, rows_of, seek, under}
 use Rattle.rows.specs.Standing.{Covers, Good, Goods, Known, Stands, at, pick, wide_all}
 use Rattle.rows.specs.Worlds.{Fitting, Row}
 use Rattle.rewriting.proofs.Carries.{Carries, Holds}
@@ -33,7 +32,6 @@ use Rattle.rewriting.specs.Laws.{Gives}
 use Rattle.rewriting.specs.Outlay.{Tally}
 use Rattle.rewriting.specs.Pushing.{aliases_of, all_fit_places, fits_places, places_in, remap, remap_pairs, same_places, united}
 use Rattle.rewriting.specs.Routing.{Pair}
-use Rattle.rewriting.specs.Worked.{first}
 
 places-eq : (a b : List ℕ) → T (same_places a b) → a ≡ b
 unfolding same_places

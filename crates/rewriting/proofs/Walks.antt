@@ -13,7 +13,7 @@ use Rattle.plan.specs.Values.{null}
 use Rattle.rows.proofs.Finds.{eval-alike}
 use Rattle.rows.proofs.Lists.{all-forall}
 use Rattle.rows.proofs.Words.{eval, evals, rows}
-use Rattle.rows.specs.Lists.{keep, place}
+use Rattle.rows.specs.Lists.{keep}
 use Rattle.rows.specs.Rows.{value_in}
 use Rattle.rows.specs.Standing.{Covers, Known, Knowns, Stands, pick}
 use Rattle.rows.specs.Worlds.{Fitting, Row, applied}

@@ -1,4 +1,6 @@
 //! Extract and push, as functions on trees. Each function stands for what its contract says.
+#![tactic(auto)]
+
 ghost use Rattle.rewriting.specs.Book.{Law};
 ghost use Rattle.rewriting.specs.Fresh.{GeneratedIsGood, GeneratedIsNew};
 ghost use Rattle.rewriting.specs.Laws.{ExtractLaw, PushLaw};

@@ -3,7 +3,6 @@ use Rattle.std.proofs.Common.{◌≡◌, ℕ, suc, List, [], ◌∷◌, ◌++◌
 use lib.ListN.{length-map}
 use lib.Seq.{get_or-append_seam}
 use Rattle.std.proofs.ByRecursion.{All-weaker}
-use Rattle.plan.specs.Fields.{lawful}
 use Rattle.plan.specs.Functions.{Functions}
 use Rattle.plan.specs.Plans.{Plan, fields_of}
 use Rattle.plan.specs.Plans.Plan.{projection}
@@ -16,7 +15,7 @@ use Rattle.rows.proofs.Lists.{map-append, map_back, map_on, map_same}
 use Rattle.rows.proofs.Wide.{Wide, rows-wide}
 use Rattle.rows.proofs.Words.{eval, rows}
 use Rattle.rows.specs.Rows.{rows_of}
-use Rattle.rows.specs.Standing.{Covers, Lawful, Stands, at, pick, refs, up_from}
+use Rattle.rows.specs.Standing.{Covers, Lawful, Stands, pick, refs, up_from}
 use Rattle.rows.specs.Worlds.{Fitting, Row}
 
 snoc-long : {A : Type 0} (l : List A) (x : A) → length (l ++ x ∷ []) ≡ suc (length l)

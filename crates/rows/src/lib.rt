@@ -1,4 +1,6 @@
 //! The rows that plans mean. Each function stands for what its contract says.
+#![tactic(auto)]
+
 ghost use Rattle.rows.specs.Examples.{examples_hold};
 ghost use Rattle.rows.specs.Theorems.{FiltersKeepBoth, LeftPadsInner, LiteralsAreThemselves, NullKeepingIsNull, RowsAreAsWide, SemiAndAntiSplit};
 ghost use Rattle.std.specs.Prelude.{◌≡◌, true};
