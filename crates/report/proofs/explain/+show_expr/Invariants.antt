@@ -1,4 +1,4 @@
 use Rattle.report.proofs.explain.+show_expr.Given as goal
 
-abbrev pub decreases-show-expr : goal.decreases-show-expr
-decreases-show-expr l = l.levels
+abbrev pub decreases-show_expr : goal.decreases-show_expr
+decreases-show_expr l = l.levels

@@ -1,4 +1,4 @@
 use Rattle.report.proofs.explain.+show_plan.Given as goal
 
-abbrev pub decreases-show-plan : goal.decreases-show-plan
-decreases-show-plan l = l.levels
+abbrev pub decreases-show_plan : goal.decreases-show_plan
+decreases-show_plan l = l.levels
