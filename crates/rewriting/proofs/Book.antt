@@ -4,7 +4,7 @@ use lib.ListN.{get_or-append, length-map}
 use lib.Seq.{get_or-append_seam}
 use mir.Facts.{and_yes}
 use Rattle.std.proofs.ByRecursion.{All-append, All-get_or, All-map, All-weaker}
-use Rattle.std.specs.List.{AllByRecursion as All}
+use Rattle.std.specs.List.{AllByRecursion}
 use Rattle.plan.specs.Calls.{Call, Made, asked, below, new_plans, new_trees}
 use Rattle.plan.specs.Calls.Call.{make_aggregate, make_alias, make_call, make_filter, make_join, make_limit, make_literal, make_projection, make_reference, make_sort, make_subquery_alias, make_table, make_union}
 use Rattle.plan.specs.Faults.{first_no}
@@ -36,7 +36,7 @@ use Rattle.rewriting.specs.Outlay.{start_at}
 
 -- what every call keeps
 pub record Sound (s : State) : Type 0 where
-  pub good : All (λ n. Good s.model.functions n.tree) s.model.plans
+  pub good : AllByRecursion (λ n. Good s.model.functions n.tree) s.model.plans
   pub low : (i : ℕ) → i < count_of s → origin_at s i < count_of s
   pub alike : (i j : ℕ) → i < count_of s → j < count_of s → origin_at s i ≡ origin_at s j → Same s.model.functions (tree_at s i) (tree_at s j)
   pub long : length s.inputs ≡ count_of s
@@ -52,7 +52,7 @@ pub record Growth (s : State) (nodes : List Node) (numbers : List (List ℕ)) (s
   pub plans : s'.model.plans ≡ s.model.plans ++ nodes
   pub inputs : s'.inputs ≡ s.inputs ++ numbers
   pub long : length numbers ≡ length nodes
-  pub good : All (λ n. Good s.model.functions n.tree) nodes
+  pub good : AllByRecursion (λ n. Good s.model.functions n.tree) nodes
   pub from : (k : ℕ) → k < length nodes → From s k (get_or nodes k no_node)
   pub stands : (k : ℕ) → count_of s ≤ k → k < count_of s' → Standing s'.model.plans k (inputs_at s' k) (tree_at s' k)
 
@@ -121,7 +121,7 @@ module _ (s s' : State) (nodes : List Node) (numbers : List (List ℕ)) (kept : 
   alike-new i j e (inr a) (inr b) = let p : i ≡ j = (let x = a.1 in let y = b.1 in omega arith) in subst (λ (k : ℕ). Same F (tree_at s' i) (tree_at s' k)) p (same_refl (tree_at s' i))
 
   -- an old node stands on what it stood on
-  trees-same : (i : ℕ) → i < count_of s → (ns : List ℕ) → All (λ k. k < i) ns
+  trees-same : (i : ℕ) → i < count_of s → (ns : List ℕ) → AllByRecursion (λ k. k < i) ns
       → map (λ k. (get_or s.model.plans k no_node).tree) ns ≡ map (λ k. (get_or s'.model.plans k no_node).tree) ns
   trees-same i h [] a = refl
   trees-same i h (n ∷ ns) a =
@@ -227,7 +227,7 @@ built-longer s s' c r k m e = record {
     own (p ∷ []) b (suc j) l = absurd (omega arith)
     own (p ∷ q ∷ ps) b j l = absurd (omega arith)
 
-    trees-are : (ps : List Plan) → s'.model.plans ≡ s.model.plans ++ map as_node ps → (ns : List ℕ) → All (λ k. k < count_of s) ns
+    trees-are : (ps : List Plan) → s'.model.plans ≡ s.model.plans ++ map as_node ps → (ns : List ℕ) → AllByRecursion (λ k. k < count_of s) ns
         → map (tree_at s) ns ≡ map (λ k. (get_or s'.model.plans k no_node).tree) ns
     trees-are ps e [] h = refl
     trees-are ps e (n ∷ ns) h =
@@ -306,7 +306,7 @@ law-agree F text used ss s t =
     record { good = good-node s k; same = k.alike; resolved = λ i h. good-resolved s.model.functions (tree_at s i) (good-node s k i h) }
 
 -- the names of every node's fields are among the names of the book
-node-names : (F : Functions) (Q : Name → Type 0) (ns : List Node) → All Q (node_names F ns) → All (λ n. All (λ f. Q f.name) (fields_of F n.tree)) ns
+node-names : (F : Functions) (Q : Name → Type 0) (ns : List Node) → AllByRecursion Q (node_names F ns) → AllByRecursion (λ n. AllByRecursion (λ f. Q f.name) (fields_of F n.tree)) ns
 unfolding node_names
 node-names F Q [] h = tt
 node-names F Q (n ∷ ns) h =
@@ -314,18 +314,18 @@ node-names F Q (n ∷ ns) h =
     let b = all_split Q (plan_names n.tree) (node_names F ns) a.1 in
     (all_of_map Q (λ f. f.name) (fields_of F n.tree) a.0, node-names F Q ns b.1)
 
-lower-names : (m : Model) → All (λ x. number_of x < next_number m) (book_names m)
+lower-names : (m : Model) → AllByRecursion (λ x. number_of x < next_number m) (book_names m)
 unfolding next_number
 lower-names m = All-weaker _ _ (λ x h. suc-le-suc h) (book_names m) (highest-above 99999999 (book_names m))
 
-fields-lower : (s : State) → All (λ n. All (λ f. number_of f.name < next_number s.model) (fields_of s.model.functions n.tree)) s.model.plans
+fields-lower : (s : State) → AllByRecursion (λ n. AllByRecursion (λ f. number_of f.name < next_number s.model) (fields_of s.model.functions n.tree)) s.model.plans
 unfolding book_names
 fields-lower s =
     node-names s.model.functions (λ x. number_of x < next_number s.model) s.model.plans
     (all_split _ (list_names s.model.exprs) (node_names s.model.functions s.model.plans) (lower-names s.model)).1
 
 -- and so are those of its inputs' fields
-input-fields : (F : Functions) (Q : Field → Type 0) (P : Plan) → All (λ p. All Q (fields_of F p)) (inputs_of P) → All Q (input_fields F P)
+input-fields : (F : Functions) (Q : Field → Type 0) (P : Plan) → AllByRecursion (λ p. AllByRecursion Q (fields_of F p)) (inputs_of P) → AllByRecursion Q (input_fields F P)
 input-fields F Q (table k q ns) h = tt
 input-fields F Q (projection es i) h = h.0
 input-fields F Q (filter e i) h = h.0
@@ -336,13 +336,13 @@ input-fields F Q (join k cs l r) h = All-append Q (fields_of F l) (fields_of F r
 input-fields F Q (subquery_alias n i) h = h.0
 input-fields F Q (union i is) h = h.0
 
-inputs-lower : (s : State) (i : ℕ) → Sound s → i < count_of s → All (λ f. number_of f.name < next_number s.model) (input_fields s.model.functions (tree_at s i))
+inputs-lower : (s : State) (i : ℕ) → Sound s → i < count_of s → AllByRecursion (λ f. number_of f.name < next_number s.model) (input_fields s.model.functions (tree_at s i))
 inputs-lower s i kept h =
     let a = kept.stands i h in
-    input-fields s.model.functions _ (tree_at s i) (subst (All Q) (sym a.1) (All-map Q _ (inputs_at s i) (All-weaker _ _ (λ k l. at k l) (inputs_at s i) a.0)))
+    input-fields s.model.functions _ (tree_at s i) (subst (AllByRecursion Q) (sym a.1) (All-map Q _ (inputs_at s i) (All-weaker _ _ (λ k l. at k l) (inputs_at s i) a.0)))
   where
     Q : Plan → Type 0
-    Q p = All (λ f. number_of f.name < next_number s.model) (fields_of s.model.functions p)
+    Q p = AllByRecursion (λ f. number_of f.name < next_number s.model) (fields_of s.model.functions p)
 
     at : (k : ℕ) → k < i → Q (tree_at s k)
     at k l = All-get_or (λ n. Q n.tree) s.model.plans k no_node (omega arith) (fields-lower s)

@@ -1,6 +1,6 @@
 -- What stands for a plan's input stands for the plan.
 use Rattle.std.proofs.Common.{◌≡◌, ℕ, List, [], ◌∷◌, map, take, drop, sym, refl, ap, ◌∙◌}
-use Rattle.std.specs.List.{AllByRecursion as All}
+use Rattle.std.specs.List.{AllByRecursion}
 use Rattle.plan.specs.Functions.{Functions}
 use Rattle.plan.specs.Plans.{Key, Plan, fields_of}
 use Rattle.plan.specs.Plans.Plan.{filter, limit, projection, sort}
@@ -21,7 +21,7 @@ cut-map g s c rs = rw (drop-map g s rs) (take-map g c (drop s rs))
 module _ {F : Functions} where
   -- the expressions of a list whose references are known on both sides
   pub alike_all : (W : Fitting F) (rs : List Field) (σ : List ℕ) (ps : List Field) → Covers rs σ ps → (row : Row) (es : List Expr)
-      → All (Known ps) es → All (Known rs) es → map (eval W ps (pick σ row)) es ≡ map (eval W rs row) es
+      → AllByRecursion (Known ps) es → AllByRecursion (Known rs) es → map (eval W ps (pick σ row)) es ≡ map (eval W rs row) es
   alike_all W rs σ ps c row [] kp kr = refl
   alike_all W rs σ ps c row (e ∷ es) kp kr =
       let p = eval-alike W rs σ ps c row e kp.0 kr.0 in
@@ -29,7 +29,7 @@ module _ {F : Functions} where
       cc
 
   pub alike-keys : (W : Fitting F) (rs : List Field) (σ : List ℕ) (ps : List Field) → Covers rs σ ps → (row : Row) (ks : List Key)
-      → All (λ k. Known ps k.by) ks → All (λ k. Known rs k.by) ks → map (λ k. eval W ps (pick σ row) k.by) ks ≡ map (λ k. eval W rs row k.by) ks
+      → AllByRecursion (λ k. Known ps k.by) ks → AllByRecursion (λ k. Known rs k.by) ks → map (λ k. eval W ps (pick σ row) k.by) ks ≡ map (λ k. eval W rs row k.by) ks
   alike-keys W rs σ ps c row [] kp kr = refl
   alike-keys W rs σ ps c row (e ∷ es) kp kr =
       let p = eval-alike W rs σ ps c row e.by kp.0 kr.0 in
@@ -50,7 +50,7 @@ module _ {F : Functions} where
     unfolding rows_of
     stands-limit n c = record { covers = s.covers; alike = λ W. rw (s.alike W) (cut-map (pick σ) n c (rows W R)) }
 
-    pub stands-sort : (ks : List Key) → All (λ k. Known (fields_of F P) k.by) ks → All (λ k. Known (fields_of F R) k.by) ks → Stands F σ (sort ks R) (sort ks P)
+    pub stands-sort : (ks : List Key) → AllByRecursion (λ k. Known (fields_of F P) k.by) ks → AllByRecursion (λ k. Known (fields_of F R) k.by) ks → Stands F σ (sort ks R) (sort ks P)
     unfolding rows_of key_values
     stands-sort ks kp kr = record {
       covers = s.covers;
@@ -61,7 +61,7 @@ module _ {F : Functions} where
     }
 
   -- references to the fields of P, in R, give the row of P
-  pub recover : (W : Fitting F) (rs : List Field) (σ : List ℕ) (ps : List Field) (row : Row) → Covers rs σ ps → All (λ f. Known rs (reference f)) ps
+  pub recover : (W : Fitting F) (rs : List Field) (σ : List ℕ) (ps : List Field) (row : Row) → Covers rs σ ps → AllByRecursion (λ f. Known rs (reference f)) ps
       → map (eval W rs row) (refs ps) ≡ pick σ row
   unfolding value_in pick
   recover W rs [] [] row c k = refl
@@ -77,7 +77,7 @@ refs-fields F [] = refl
 refs-fields F (f ∷ fs) = ap (λ (r : List Field). f ∷ r) (refs-fields F fs)
 
 module _ {F : Functions} where
-  pub recovery : {σ : List ℕ} {R P : Plan} → Stands F σ R P → All (λ f. Known (fields_of F R) (reference f)) (fields_of F P) → Same F (projection (refs (fields_of F P)) R) P
+  pub recovery : {σ : List ℕ} {R P : Plan} → Stands F σ R P → AllByRecursion (λ f. Known (fields_of F R) (reference f)) (fields_of F P) → Same F (projection (refs (fields_of F P)) R) P
   unfolding rows_of
   recovery {σ} {R} {P} s k = record {
     fields_same = refs-fields F (fields_of F P);

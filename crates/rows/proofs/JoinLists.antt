@@ -1,7 +1,7 @@
 -- A join's rows, when both sides are mapped.
 use Rattle.std.proofs.Common.{◌≡◌, ℕ, Bool, true, false, cond, not, List, [], ◌∷◌, ◌++◌, map, refl, ap}
 use Rattle.std.proofs.ByRecursion.{All-weaker}
-use Rattle.std.specs.List.{AllByRecursion as All}
+use Rattle.std.specs.List.{AllByRecursion}
 use Rattle.plan.specs.Fields.{any, every}
 use Rattle.rows.proofs.Lists.{all_keep, map-append}
 use Rattle.rows.specs.Lists.{each, keep, or_else}
@@ -9,7 +9,7 @@ use Rattle.rows.specs.Rows.{lone, nulls, pairs, pairs_padded}
 use Rattle.rows.specs.Worlds.{Row}
 
 module _ {A B : Type 0} where
-  keep-map-on : (g : A → B) (p : A → Bool) (q : B → Bool) (xs : List A) → All (λ x. q (g x) ≡ p x) xs → keep q (map g xs) ≡ map g (keep p xs)
+  keep-map-on : (g : A → B) (p : A → Bool) (q : B → Bool) (xs : List A) → AllByRecursion (λ x. q (g x) ≡ p x) xs → keep q (map g xs) ≡ map g (keep p xs)
   unfolding keep
   keep-map-on g p q [] e = refl
   keep-map-on g p q (x ∷ xs) e = rw e.0 (go (p x) (keep-map-on g p q xs e.1))
@@ -18,11 +18,11 @@ module _ {A B : Type 0} where
       go true h = ap (λ (r : List B). g x ∷ r) h
       go false h = h
 
-  any-map-on : (g : A → B) (p : A → Bool) (q : B → Bool) (xs : List A) → All (λ x. q (g x) ≡ p x) xs → any q (map g xs) ≡ any p xs
+  any-map-on : (g : A → B) (p : A → Bool) (q : B → Bool) (xs : List A) → AllByRecursion (λ x. q (g x) ≡ p x) xs → any q (map g xs) ≡ any p xs
   any-map-on g p q [] e = refl
   any-map-on g p q (x ∷ xs) e = let a = e.0 in let b = any-map-on g p q xs e.1 in cc
 
-  each-map-on : {C : Type 0} {D : Type 0} (f : A → B) (h : C → D) (F : B → List D) (G : A → List C) (xs : List A) → All (λ x. F (f x) ≡ map h (G x)) xs
+  each-map-on : {C : Type 0} {D : Type 0} (f : A → B) (h : C → D) (F : B → List D) (G : A → List C) (xs : List A) → AllByRecursion (λ x. F (f x) ≡ map h (G x)) xs
       → each F (map f xs) ≡ map h (each G xs)
   unfolding each
   each-map-on f h F G [] e = refl
@@ -32,7 +32,7 @@ module _ {A B : Type 0} where
       let c = map-append h (G x) (each G xs) in
       cc
 
-  map-both-on : {C : Type 0} {D : Type 0} (k : B → D) (g : A → B) (h : C → D) (j : A → C) (xs : List A) → All (λ x. k (g x) ≡ h (j x)) xs → map k (map g xs) ≡ map h (map j xs)
+  map-both-on : {C : Type 0} {D : Type 0} (k : B → D) (g : A → B) (h : C → D) (j : A → C) (xs : List A) → AllByRecursion (λ x. k (g x) ≡ h (j x)) xs → map k (map g xs) ≡ map h (map j xs)
   map-both-on k g h j [] e = refl
   map-both-on k g h j (x ∷ xs) e = let a = e.0 in let b = map-both-on k g h j xs e.1 in cc
 
@@ -41,11 +41,11 @@ module _ {A B : Type 0} where
   or_else-map h [] d = refl
   or_else-map h (x ∷ xs) d = refl
 
-pub every-on : {A : Type 0} (p q : A → Bool) (xs : List A) → All (λ x. p x ≡ q x) xs → every p xs ≡ every q xs
+pub every-on : {A : Type 0} (p q : A → Bool) (xs : List A) → AllByRecursion (λ x. p x ≡ q x) xs → every p xs ≡ every q xs
 every-on p q [] e = refl
 every-on p q (x ∷ xs) e = let a = e.0 in let b = every-on p q xs e.1 in cc
 
-module _ (f g h : Row → Row) (m_p m_r : Row → Row → Bool) (QL QR : Row → Type 0) (ls rs : List Row) (hl : All QL ls) (hr : All QR rs)
+module _ (f g h : Row → Row) (m_p m_r : Row → Row → Bool) (QL QR : Row → Type 0) (ls rs : List Row) (hl : AllByRecursion QL ls) (hr : AllByRecursion QR rs)
     (mm : (l r : Row) → QL l → QR r → m_p (f l) (g r) ≡ m_r l r) (hh : (l r : Row) → QL l → QR r → f l ++ g r ≡ h (l ++ r)) where
   row-nat : (l : Row) → QL l → map (λ r. f l ++ r) (keep (m_p (f l)) (map g rs)) ≡ map h (map (λ r. l ++ r) (keep (m_r l) rs))
   row-nat l k =

@@ -1,7 +1,7 @@
 -- What stands for both sides of a join stands for the join.
 use Rattle.std.proofs.Common.{◌≡◌, ℕ, zero, suc, ◌+◌, ◌<◌, Bool, not, List, [], ◌∷◌, ◌++◌, map, length, get_or, sym, refl, ap, ◌∙◌, append-nil, arith, length-append, get_or-append-add}
 use lib.ListN.{get_or-append}
-use Rattle.std.specs.List.{AllByRecursion as All}
+use Rattle.std.specs.List.{AllByRecursion}
 use Rattle.plan.specs.Functions.{Functions}
 use Rattle.plan.specs.Plans.{Plan, fields_of, shown}
 use Rattle.plan.specs.Plans.Plan.{join}
@@ -106,7 +106,7 @@ module _ (rl rr : List Field) (σ τ : List ℕ) (pl pr : List Field) (cl : Cove
       let c = map-append (λ i. get_or (l ++ r) i null) σ (shift (length rl) τ) in
       cc
 
-  matches-alike : {F : Functions} (W : Fitting F) (cs : List Expr) → All (Known (pl ++ pr)) cs → All (Known (rl ++ rr)) cs → (l r : Row) → Wide (length rl) l
+  matches-alike : {F : Functions} (W : Fitting F) (cs : List Expr) → AllByRecursion (Known (pl ++ pr)) cs → AllByRecursion (Known (rl ++ rr)) cs → (l r : Row) → Wide (length rl) l
       → matches W.world (pl ++ pr) cs (pick σ l) (pick τ r) ≡ matches W.world (rl ++ rr) cs l r
   unfolding matches holds
   matches-alike W cs kp kr l r w =
@@ -129,7 +129,7 @@ module _ (rl rr : List Field) (σ τ : List ℕ) (pl pr : List Field) (cl : Cove
 
   -- tests that agree on what is known of the rows of each side give rows that are alike
   module _ (m_p m_r : Row → Row → Bool) (QL QR : Row → Type 0) (wide : (l : Row) → QL l → Wide (length rl) l)
-      (mm : (l r : Row) → QL l → QR r → m_p (pick σ l) (pick τ r) ≡ m_r l r) (ls rs : List Row) (hl : All QL ls) (hr : All QR rs) where
+      (mm : (l r : Row) → QL l → QR r → m_p (pick σ l) (pick τ r) ≡ m_r l r) (ls rs : List Row) (hl : AllByRecursion QL ls) (hr : AllByRecursion QR rs) where
     both : (l r : Row) → QL l → QR r → pick σ l ++ pick τ r ≡ pick (σ ++ shift (length rl) τ) (l ++ r)
     both l r p q = pick-both l r (wide l p)
 
@@ -157,8 +157,8 @@ module _ (rl rr : List Field) (σ τ : List ℕ) (pl pr : List Field) (cl : Cove
 module _ {F : Functions} where
   -- the general law: the conditions of the new join agree with the old ones' on the rows
   pub stands-join-when : {σ τ : List ℕ} {RL RR PL PR : Plan} → Stands F σ RL PL → Stands F τ RR PR → (k : JoinKind) (cs cs' : List Expr)
-      → All (Known (fields_of F PL ++ fields_of F PR)) cs → All (Known (fields_of F RL ++ fields_of F RR)) cs → (QL QR : Fitting F → Row → Type 0)
-      → ((W : Fitting F) → All (QL W) (rows W RL)) → ((W : Fitting F) → All (QR W) (rows W RR))
+      → AllByRecursion (Known (fields_of F PL ++ fields_of F PR)) cs → AllByRecursion (Known (fields_of F RL ++ fields_of F RR)) cs → (QL QR : Fitting F → Row → Type 0)
+      → ((W : Fitting F) → AllByRecursion (QL W) (rows W RL)) → ((W : Fitting F) → AllByRecursion (QR W) (rows W RR))
       → ((W : Fitting F) (l r : Row) → QL W l × Wide (length (fields_of F RL)) l → QR W r × Wide (length (fields_of F RR)) r
       → matches W.world (fields_of F RL ++ fields_of F RR) cs l r ≡ matches W.world (fields_of F RL ++ fields_of F RR) cs' l r)
       → Stands F (sides_at k (length (fields_of F RL)) σ τ) (join k cs' RL RR) (join k cs PL PR)
@@ -175,7 +175,7 @@ module _ {F : Functions} where
   }
 
   pub stands-join : {σ τ : List ℕ} {RL RR PL PR : Plan} → Stands F σ RL PL → Stands F τ RR PR → (k : JoinKind) (cs : List Expr)
-      → All (Known (fields_of F PL ++ fields_of F PR)) cs → All (Known (fields_of F RL ++ fields_of F RR)) cs
+      → AllByRecursion (Known (fields_of F PL ++ fields_of F PR)) cs → AllByRecursion (Known (fields_of F RL ++ fields_of F RR)) cs
       → Stands F (sides_at k (length (fields_of F RL)) σ τ) (join k cs RL RR) (join k cs PL PR)
   stands-join {RL = RL} {RR = RR} sl sr k cs kp kr =
       stands-join-when sl sr k cs cs kp kr (λ W l. Unit {0}) (λ W r. Unit {0})

@@ -3,7 +3,7 @@ use Rattle.std.proofs.Common.{◌≡◌, ℕ, zero, suc, ◌+◌, ◌<◌, Bool,
 use mir.Facts.{and_yes, yes_and}
 use Rattle.std.proofs.ByRecursion.{All-from_get_or}
 use Rattle.std.proofs.lemmas.List.Sums.{sum_by-cons}
-use Rattle.std.specs.List.{AllByRecursion as All}
+use Rattle.std.specs.List.{AllByRecursion}
 use Rattle.std.specs.Str.{bytes_eq}
 use Rattle.plan.specs.Fields.{any, clash, every, lawful, named, resolved, resolves}
 use Rattle.plan.specs.Names.{Name}
@@ -171,6 +171,6 @@ module _ (fs : List Field) (l : T (lawful fs)) where
         let a = every_append (resolves fs) (references_of e) (references_of_all es) h in
         (resolved-known e a.0, resolveds-known es a.1)
 
-  pub all-resolved : (es : List Expr) → T (every (resolved fs) es) → All (Known fs) es
+  pub all-resolved : (es : List Expr) → T (every (resolved fs) es) → AllByRecursion (Known fs) es
   all-resolved [] h = tt
   all-resolved (e ∷ es) h = let a = and_yes (resolved fs e) (every (resolved fs) es) h in (resolved-known e a.0, all-resolved es a.1)

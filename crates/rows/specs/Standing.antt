@@ -4,7 +4,7 @@
 --     Same fs A B      the same fields, and in every world that fits the same rows
 --     Good fs p      every node of p passes the questions of its building call
 use Rattle.std.specs.Prelude.{◌≡◌, ℕ, zero, suc, ◌<◌, Bool, true, false, ◌&&◌, T, List, [], ◌∷◌, map, length, get_or, ◌==◌, slice_index_or}
-use Rattle.std.specs.List.{AllByRecursion as All}
+use Rattle.std.specs.List.{AllByRecursion}
 use Rattle.plan.specs.Terms.{Field, Expr, Exprs}
 use Rattle.plan.specs.Terms.Expr.{literal, reference, alias, call}
 use Rattle.plan.specs.Terms.Exprs.{none, more}
@@ -43,7 +43,7 @@ abbrev mutual
 
 -- each field is the only one that a reference to it may mean
 abbrev pub Lawful : List Field → Type 0
-Lawful fs = All (λ f. Known fs (reference f)) fs
+Lawful fs = AllByRecursion (λ f. Known fs (reference f)) fs
 
 unfoldable pub pick : List ℕ → Row → Row
 pick σ row = map (λ i. get_or row i null) σ

@@ -8,7 +8,7 @@
 use Rattle.std.specs.Prelude.{◌≡◌, ℕ, ◌+◌, Bool, true, cond, not, ◌&&◌, T, List, [], ◌∷◌, ◌++◌, length}
 use Rattle.std.specs.Float.{binary64}
 use Rattle.std.specs.Float.Ieee.{fits}
-use Rattle.std.specs.List.{AllByRecursion as All}
+use Rattle.std.specs.List.{AllByRecursion}
 use Rattle.plan.specs.Fields.{any}
 use Rattle.plan.specs.Functions.{Functions, null_keeping}
 use Rattle.plan.specs.Plans.{Plan, fields_of}
@@ -22,7 +22,7 @@ use Rattle.rows.specs.Rows.{holds, literal_value, matches, nulls, pairs, rows_of
 use Rattle.rows.specs.Worlds.{Row, World, Fitting}
 
 abbrev pub RowsAreAsWide : Type 0
-RowsAreAsWide = (F : Functions) (W : Fitting F) (p : Plan) → All (λ row. length row ≡ length (fields_of F p)) (rows_of F W.world p)
+RowsAreAsWide = (F : Functions) (W : Fitting F) (p : Plan) → AllByRecursion (λ row. length row ≡ length (fields_of F p)) (rows_of F W.world p)
 
 abbrev pub FiltersKeepBoth : Type 0
 FiltersKeepBoth = (F : Functions) (w : World) (d e : Expr) (p : Plan)
@@ -41,8 +41,8 @@ LeftPadsInner = (F : Functions) (w : World) (cs : List Expr) (l r : Plan)
 -- of all rows, some pass a test and the others do not
 pub record Split (test : Row → Bool) (all some others : List Row) : Type 0 where
   pub count : length some + length others ≡ length all
-  pub pass : All (λ row. T (test row)) some
-  pub fail : All (λ row. T (not (test row))) others
+  pub pass : AllByRecursion (λ row. T (test row)) some
+  pub fail : AllByRecursion (λ row. T (not (test row))) others
 
 abbrev pub SemiAndAntiSplit : Type 0
 SemiAndAntiSplit = (F : Functions) (w : World) (cs : List Expr) (l r : Plan)
