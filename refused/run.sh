@@ -1,6 +1,6 @@
 #!/bin/sh
 # Each refused/NAME/*.edit is applied to a copy of crates/NAME, which the compiler must then refuse with the error that the
-# edit names: such an error never reaches the prover. Run it after a check of all crates.
+# edit names: such an error never reaches the prover.
 root=$(cd "$(dirname "$0")/.." && pwd)
 bad=0
 for edit in "$root"/refused/*/*.edit; do
@@ -9,8 +9,7 @@ for edit in "$root"/refused/*/*.edit; do
     want=$(sed -n 's/^error: //p' "$edit")
     file=$(sed -n 's/^file: //p' "$edit")
     w=$(mktemp -d)
-    cp -R "$root/crates" "$root/crates.txt" "$w/"
-    ln -s "$root/target" "$w/target"
+    (cd "$root" && tar cf - --exclude=out crates crates.txt) | tar xf - -C "$w"
     OLD=$(sed -n 's/^old: //p' "$edit") NEW=$(sed -n 's/^new: //p' "$edit") awk '
         { text = text $0 "\n" }
         END {
@@ -19,7 +18,7 @@ for edit in "$root"/refused/*/*.edit; do
             if (!at) exit 3
             printf "%s%s%s", substr(text, 1, at - 1), ENVIRON["NEW"], substr(text, at + length(old))
         }' "$root/crates/$name/$file" >"$w/crates/$name/$file" || bad=1
-    out=$(cd "$w" && rt mir "$name" 2>&1)
+    out=$(cd "$w" && cd "crates/$name" && rt try 2>&1)
     status=$?
     if [ $status -ne 0 ] && printf '%s\n' "$out" | grep -q "error\[$want\]"; then
         echo "refused with $want: $label"
