@@ -1,14 +1,1 @@
-pub mod PlanFrames
-pub mod PlanFacts
-pub mod Held
-pub mod Placings
-pub mod Answers
-pub mod Draftings
-pub mod NodeFacts
-pub mod Small
-pub mod Commas
-pub mod Fitting
-pub mod Adding
-pub mod NodeAnswers
-pub mod WiderFacts
-pub mod SortFacts
+pub mod Reaching

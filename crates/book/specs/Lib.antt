@@ -1,11 +1,2 @@
-pub mod Stored
-pub mod Holding
-pub mod Reading
-pub mod Making
-pub mod Placing
-pub mod Listing
-pub mod Answering
-pub mod Drafting
 pub mod Declaration
-pub mod Looking
-pub mod Keys
+pub mod Opened

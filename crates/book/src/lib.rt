@@ -1,5 +1,5 @@
-//! Plans in fixed tables, and the calls that build them.
+//! Books of query plans: functions are declared, the book is opened, and then come its calls.
+#![tactic(auto)]
+
 pub mod declaration;
-pub mod node;
-pub mod placing;
-pub mod tables;
+pub mod opened;

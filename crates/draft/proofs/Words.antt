@@ -1,16 +1,16 @@
 -- What the words of a draft stand for.
-use Rattle.std.proofs.Common.{◌≡◌, ℕ, ◌+◌, ◌<◌, ◌≤◌, Bool, true, ◌&&◌, ltb, leb, List, [], ◌∷◌, ◌++◌, map, length, drop, sym, refl, ap, ◌∙◌, subst, ap₂, arith, length-drop, length-take}
+use Rattle.std.proofs.Common.{◌≡◌, ℕ, ◌<◌, ◌≤◌, true, ◌&&◌, List, length, drop, sym, refl, ap, ◌∙◌, subst, arith, length-drop, length-take}
 use Rattle.std.proofs.lemmas.Bool.{and_from, lt-ltb}
 use Rattle.table.proofs.Held.{held}
-use Rattle.plan.specs.Terms.{Field, Expr, Exprs, Literal}
-use Rattle.plan.specs.Terms.Expr.{literal, reference, alias, call}
+use Rattle.plan.specs.Terms.{Expr, Exprs, Literal}
+use Rattle.plan.specs.Terms.Expr.{literal, call}
 use Rattle.plan.specs.Functions.{Functions}
 use Rattle.plan.specs.Rendering.{rendered, field_of, unqualified_field}
 use Rattle.plan.specs.Model.{expr_in, no_expr}
 use Rattle.plan.specs.Calls.{rendered_bytes}
 use Rattle.terms.specs.Acceptance.{acceptable}
 use Rattle.terms.specs.Build.{width_of}
-use Rattle.terms.specs.Spans.{word, span_in, qualifier_at, qualifier_in, field_at, field_in, stored_field, stored_in}
+use Rattle.terms.specs.Spans.{word, span_in, qualifier_at, qualifier_in, field_at, field_in}
 use Rattle.terms.specs.Views.{View, view_of, tree_of, count}
 use Rattle.terms.specs.declared.node.ExprId.{ExprId}
 use Rattle.terms.specs.declared.node.Span.{Span}
@@ -19,7 +19,7 @@ use Rattle.terms.specs.declared.node.Qualifier.TheVariants.{Unqualified, Qualifi
 use Rattle.terms.specs.declared.terms.Terms.{Terms}
 use Rattle.terms.proofs.Bounds.{small, width-le}
 use Rattle.terms.proofs.Frames.{every-at}
-use Rattle.draft.specs.Drafts.{word_at, owner_at, owner_in, draft_field, draft_in, drafted, kept_qualifier, FieldFor}
+use Rattle.draft.specs.Drafts.{owner_at, owner_in, drafted, kept_qualifier, FieldFor}
 use Rattle.draft.specs.declared.word.DraftQualifier.{DraftQualifier}
 use Rattle.draft.specs.declared.word.DraftQualifier.TheVariants.{Bare}
 use Rattle.draft.specs.declared.word.Word.TheVariants.{Stored, Rendered}

@@ -5,7 +5,7 @@
 --     field_bytes v d, draft_bytes v ds      how many bytes a rendered name takes; all of them
 --     FieldFor v e d, FieldsFor v es ds      d is a draft of the field of the expression e; the same of lists
 --     WordAs, StoredAs, StoredAll      what storing a word, a field, or a list of fields leaves
-use Rattle.std.specs.Prelude.{◌≡◌, ℕ, ◌+◌, Bool, true, ◌&&◌, List, [], ◌∷◌, ◌++◌, map, length, sum_by, nat_le, nat_lt}
+use Rattle.std.specs.Prelude.{◌≡◌, ℕ, ◌+◌, Bool, true, ◌&&◌, List, [], ◌++◌, map, length, sum_by, nat_le, nat_lt}
 use Rattle.table.specs.Contents.{part}
 use Rattle.plan.specs.Names.{Name}
 use Rattle.plan.specs.Terms.{Field, Qualifier, Expr}

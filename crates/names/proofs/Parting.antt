@@ -1,12 +1,11 @@
 -- A text parted at its commas, from a place on.
-use Rattle.std.proofs.Common.{◌≡◌, ℕ, ◌+◌, ◌-◌, ◌<◌, ◌≤◌, Bool, true, false, cond, ◌&&◌, eqb, ltb, List, [], ◌∷◌, ◌++◌, map, length, get_or, drop, sym, refl, ap, ◌∙◌, ap₂, arith}
+use Rattle.std.proofs.Common.{◌≡◌, ℕ, ◌+◌, ◌-◌, ◌<◌, ◌≤◌, Bool, true, false, cond, eqb, List, [], ◌∷◌, ◌++◌, length, get_or, drop, sym, refl, ap, ◌∙◌, ap₂, arith}
 use Rattle.std.proofs.lemmas.List.{at_drop_more, at_drop_all, append_assoc, append-nil}
 use Rattle.std.proofs.lemmas.Bool.{lt-ltb, le-ltb}
 use Rattle.table.specs.Contents.{part}
 use Rattle.table.proofs.Parts.{part-more}
-use Rattle.plan.specs.Names.{Name, good_name}
+use Rattle.plan.specs.Names.{Name}
 use Rattle.plan.specs.Calls.{parts, first_part}
-use Rattle.plan.specs.Fields.{every}
 use Rattle.names.specs.Pieces.{parts_after}
 
 -- bytes before the first of some parts

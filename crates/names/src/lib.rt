@@ -1,4 +1,6 @@
 //! Names as bytes: which are well formed, which are generated, and how numbers are written into them.
+#![tactic(auto)]
+
 ghost use Rattle.std.specs.Prelude.{◌≡◌, ◌+◌, ◌/◌, ◌<◌, ◌≤◌, min, [], ◌++◌, length, if◌then◌else◌, decimal};
 ghost use Rattle.plan.specs.Names.{digit, digits, good_name, number_of, plain, plain_byte, prefixed, read_on};
 ghost use Rattle.plan.specs.Rendering.{hex_digit, hex_onto, hexadecimal};

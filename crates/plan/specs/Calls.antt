@@ -2,12 +2,13 @@
 --     Call, Answer      a call as a value; what it answers
 --     asked m c      the questions 1 to 8 of the call c in the book m, with their answers
 --     new_exprs m c, new_plans m c      the trees that it adds
+--     new_inputs c      the inputs of the node that it adds
 --     outlay m c      the places that it uses
 --     all_asked m c      all nine questions, with their answers
 --     Answers m c a m'      in the book m, the call c answers a and leaves m'
 use Rattle.std.specs.Prelude.{◌≡◌, ℕ, ◌+◌, Bool, true, false, cond, not, ◌&&◌, ◌||◌, List, [], ◌∷◌, ◌++◌, map, length, is_some, Some, None, sum_by, Option, ◌==◌, nat_eq, nat_le, nat_lt}
 use Rattle.plan.specs.Names.{Name, good_name, prefixed}
-use Rattle.plan.specs.Terms.{Qualifier, Field, Literal, Expr, Exprs, is_unqualified, size_of, arguments}
+use Rattle.plan.specs.Terms.{Qualifier, Field, Literal, Expr, is_unqualified, arguments}
 use Rattle.plan.specs.Terms.Qualifier.{unqualified, qualified}
 use Rattle.plan.specs.Terms.Literal.{null, truth, whole, real, text}
 use Rattle.plan.specs.Terms.Expr.{literal, reference, alias, call}
@@ -20,7 +21,6 @@ use Rattle.plan.specs.Faults.{Asked, first_no, refusal}
 use Rattle.plan.specs.Questions.{shown_expressions, small_tree, node_asked}
 use Rattle.plan.specs.Codes.{join_kind_of, direction_of}
 use Rattle.plan.specs.Model.{Space, space, fits, plus, Node, Model, expr_in, plan_in, exprs_in, plans_in, no_plan, trees_of}
-use Rattle.plan.specs.declared.fault.Question.{Question}
 use Rattle.plan.specs.declared.fault.Question.TheVariants.{Present, Named, Bounded, Placed, Space as SpaceQuestion}
 use Rattle.plan.specs.declared.fault.Question.TheVariants.{Limited}
 use Rattle.plan.specs.declared.fault.Fault.{Fault}
@@ -51,8 +51,10 @@ pub data Call : Type 0 where
   make_subquery_alias : ℕ → Name → Call
   make_union : List ℕ → Call
 
+-- no building call answers that nothing changed
 pub data Answer : Type 0 where
   made : ℕ → Answer
+  unchanged : Answer
   refused : Fault → Answer
 
 -- the parts of a text between its commas, before the rest
@@ -232,6 +234,22 @@ outlay m (make_union is) = made_outlay m (make_union is) (length is) 0
 abbrev pub new_plans : Model → Call → List Node
 new_plans m c = map (λ p. record { tree = p; origin = length m.plans }) (new_trees m c)
 
+-- the inputs of the new node
+abbrev pub new_inputs : Call → List (List ℕ)
+new_inputs (make_literal v) = []
+new_inputs (make_reference f) = []
+new_inputs (make_alias e f) = []
+new_inputs (make_call n es) = []
+new_inputs (make_table q ns) = [] ∷ []
+new_inputs (make_projection i es) = (i ∷ []) ∷ []
+new_inputs (make_filter i e) = (i ∷ []) ∷ []
+new_inputs (make_sort i ks) = (i ∷ []) ∷ []
+new_inputs (make_limit i s c) = (i ∷ []) ∷ []
+new_inputs (make_aggregate i gs ts) = (i ∷ []) ∷ []
+new_inputs (make_join k l r cs) = (l ∷ r ∷ []) ∷ []
+new_inputs (make_subquery_alias i n) = (i ∷ []) ∷ []
+new_inputs (make_union is) = is ∷ []
+
 -- the number of what is made
 abbrev pub number_of_new : Model → Call → ℕ
 number_of_new m (make_literal v) = length m.exprs
@@ -259,6 +277,7 @@ pub record Made (m : Model) (c : Call) (r : ℕ) (m' : Model) : Type 0 where
   pub functions : m'.functions ≡ m.functions
   pub exprs : m'.exprs ≡ m.exprs ++ new_exprs m c
   pub plans : m'.plans ≡ m.plans ++ new_plans m c
+  pub inputs : m'.inputs ≡ m.inputs ++ new_inputs c
   pub bytes : List ℕ
   pub text : m'.text ≡ m.text ++ bytes
   pub used : m'.used ≡ plus m.used (outlay m c)
@@ -269,4 +288,5 @@ Refused m c f m' = (first_no (all_asked m c) ≡ Some f.question) × (f ≡ refu
 
 abbrev pub Answers : Model → Call → Answer → Model → Type 0
 Answers m c (made r) m' = Made m c r m'
+Answers m c unchanged m' = ⊥
 Answers m c (refused f) m' = Refused m c f m'

@@ -1,6 +1,6 @@
 -- The numbers of the codes; cited by Rule, JoinKind and Direction in src/code.rt.
 --     rule_of n, join_kind_of n, direction_of n      the code of a number, if there is one
-use Rattle.std.specs.Prelude.{ℕ, zero, suc, cond, Some, None, Option, ◌==◌}
+use Rattle.std.specs.Prelude.{ℕ, cond, Some, None, Option, ◌==◌}
 use Rattle.plan.specs.declared.code.Rule.{Rule}
 use Rattle.plan.specs.declared.code.Rule.TheVariants.{Stay, FirstColumn, AnyColumn, Always, Total}
 use Rattle.plan.specs.declared.code.JoinKind.{JoinKind}

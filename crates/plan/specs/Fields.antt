@@ -1,10 +1,10 @@
 -- Which field a reference means, and which lists of fields are lawful.
 --     resolves fs r      the reference r means exactly one field of fs
 --     lawful fs      no field occurs twice, and none without a qualifier shares its name with another
-use Rattle.std.specs.Prelude.{ℕ, Bool, true, false, cond, not, ◌&&◌, ◌||◌, List, [], ◌∷◌, ◌++◌, count_by, ◌==◌}
+use Rattle.std.specs.Prelude.{Bool, true, false, cond, not, ◌&&◌, ◌||◌, List, [], ◌∷◌, count_by, ◌==◌}
 use Rattle.std.specs.Str.{bytes_eq}
 use Rattle.plan.specs.Names.{Name}
-use Rattle.plan.specs.Terms.{Field, Expr, Exprs, same_qualifier, is_unqualified, same_field, references_of}
+use Rattle.plan.specs.Terms.{Field, Expr, same_qualifier, is_unqualified, same_field, references_of}
 
 abbrev pub any : {A : Type 0} → (A → Bool) → List A → Bool
 any p [] = false

@@ -11,3 +11,5 @@ pub mod Questions
 pub mod Model
 pub mod Calls
 pub mod Declaring
+pub mod Swapping
+pub mod Tracing

@@ -2,7 +2,9 @@
 --     Space, fits, plus      how much of each table is used; whether so much more has room; both together
 --     Within a o b      no table grew by more than o from a to b
 --     Node, Model      a plan with its origin; a book
-use Rattle.std.specs.Prelude.{ℕ, ◌+◌, ◌≤◌, Bool, ◌&&◌, List, [], ◌∷◌, map, length, nat_le, slice_index_or}
+--     opened fs text      the book with these functions, this text, and nothing else
+--     count_of m, node_at m i, tree_at m i, origin_at m i, inputs_at m i      its nodes, by number
+use Rattle.std.specs.Prelude.{ℕ, ◌+◌, ◌≤◌, Bool, ◌&&◌, List, [], map, length, nat_le, slice_index_or}
 use Rattle.plan.specs.Terms.{Expr}
 use Rattle.plan.specs.Terms.Expr.{literal}
 use Rattle.plan.specs.Terms.Literal.{null}
@@ -50,6 +52,8 @@ pub record Model : Type 0 where
   pub functions : Functions
   pub exprs : List Expr
   pub plans : List Node
+  -- of each node, the numbers of its inputs
+  pub inputs : List (List ℕ)
   pub text : List ℕ
   pub used : Space
 
@@ -73,3 +77,25 @@ plans_in ps is = map (plan_in ps) is
 
 abbrev pub trees_of : Model → List Plan
 trees_of m = map (λ n. n.tree) m.plans
+
+abbrev pub no_node : Node
+no_node = record { tree = no_plan; origin = 0 }
+
+abbrev pub count_of : Model → ℕ
+count_of m = length m.plans
+
+abbrev pub node_at : Model → ℕ → Node
+node_at m i = slice_index_or m.plans i no_node
+
+abbrev pub tree_at : Model → ℕ → Plan
+tree_at m i = (node_at m i).tree
+
+abbrev pub origin_at : Model → ℕ → ℕ
+origin_at m i = (node_at m i).origin
+
+abbrev pub inputs_at : Model → ℕ → List ℕ
+inputs_at m i = slice_index_or m.inputs i []
+
+-- a book that was just opened: the functions' names are its text
+abbrev pub opened : Functions → List ℕ → Model
+opened fs text = record { functions = fs; exprs = []; plans = []; inputs = []; text = text; used = space 0 0 0 0 (length text) }

@@ -2,7 +2,7 @@
 --     plain n, good_name n      no comma and no line feed; 1 to 255 such bytes whose number, if any, is small
 --     prefixed n      the name begins as generated aliases do
 --     number_of n      the decimal number after the prefix and `_`, if that is all that follows
-use Rattle.std.specs.Prelude.{ℕ, ◌+◌, ◌-◌, ◌*◌, Bool, true, false, cond, not, ◌&&◌, List, [], ◌∷◌, ◌++◌, length, take, drop, codes, ◌==◌, nat_le, nat_lt}
+use Rattle.std.specs.Prelude.{ℕ, ◌+◌, ◌-◌, ◌*◌, Bool, true, cond, not, ◌&&◌, List, [], ◌∷◌, ◌++◌, length, take, drop, codes, ◌==◌, nat_le, nat_lt}
 use Rattle.std.specs.Str.{bytes_eq}
 
 abbrev pub Name : Type 0

@@ -1,11 +1,11 @@
 -- Plans, and the fields of a plan's rows.
 --     Plan, Plans      a plan as a tree; a Table carries its node number, so that two tables of one name are two
 --     fields_of fs p      the fields of the plan p
---     height_of, plan_size_of      a plan's height, and how many nodes it has
-use Rattle.std.specs.Prelude.{ℕ, ◌+◌, max, Bool, true, false, List, [], ◌∷◌, ◌++◌, map}
+--     plan_size_of      how many nodes it has
+use Rattle.std.specs.Prelude.{ℕ, ◌+◌, Bool, true, false, List, [], ◌∷◌, ◌++◌, map}
 use Rattle.plan.specs.Names.{Name}
 use Rattle.plan.specs.Terms.{Field, Expr}
-use Rattle.plan.specs.Terms.Qualifier.{unqualified, qualified}
+use Rattle.plan.specs.Terms.Qualifier.{qualified}
 use Rattle.plan.specs.Functions.{Functions}
 use Rattle.plan.specs.Rendering.{field_of, unqualified_field}
 use Rattle.plan.specs.declared.code.JoinKind.{JoinKind}

@@ -2,12 +2,12 @@
 --     expressions_of p, input_fields fs p      the node's own expressions; the fields that they refer to
 --     joint_fields fs p      the fields that must be lawful together
 --     node_asked fs p      the questions with their answers
-use Rattle.std.specs.Prelude.{ℕ, Bool, true, false, ◌&&◌, List, [], ◌∷◌, ◌++◌, map, length, nat_le}
+use Rattle.std.specs.Prelude.{Bool, true, ◌&&◌, List, [], ◌∷◌, ◌++◌, map, length, nat_le}
 use Rattle.plan.specs.Terms.{Field, Expr, size_of}
 use Rattle.plan.specs.Terms.Expr.{literal, reference, alias, call}
 use Rattle.plan.specs.Functions.{Functions}
 use Rattle.plan.specs.Rendering.{rendered}
-use Rattle.plan.specs.Plans.{Plan, Key, fields_of, plan_size_of}
+use Rattle.plan.specs.Plans.{Plan, fields_of, plan_size_of}
 use Rattle.plan.specs.Plans.Plan.{table, projection, filter, sort, limit, aggregate, join, subquery_alias, union}
 use Rattle.plan.specs.Fields.{every, resolved, lawful}
 use Rattle.plan.specs.Faults.{Asked}

@@ -2,7 +2,7 @@
 --     rendered fs e      the name of the expression e, where fs are the functions
 --     hexadecimal n      sixteen lower hexadecimal digits
 --     field_of fs e      the field that an expression has in a Projection or an Aggregate
-use Rattle.std.specs.Prelude.{ℕ, zero, suc, ◌+◌, ◌/◌, ◌%◌, Bool, true, false, cond, List, [], ◌∷◌, ◌++◌, codes, nat_lt, to_bits}
+use Rattle.std.specs.Prelude.{ℕ, zero, suc, ◌+◌, ◌/◌, ◌%◌, true, false, cond, List, [], ◌∷◌, ◌++◌, codes, nat_lt, to_bits}
 use Rattle.std.specs.Float.{binary64}
 use Rattle.std.specs.Fmt.{signed_decimal}
 use Rattle.plan.specs.Names.{Name}

@@ -1,6 +1,6 @@
 -- Parts of a list, as lists grow.
-use Rattle.std.proofs.Common.{◌≡◌, ℕ, ◌+◌, ◌<◌, ◌≤◌, List, [], ◌∷◌, ◌++◌, length, get_or, take, drop, sym, refl, ap, ◌∙◌, ap₂, arith, length-append, length-drop, length-take}
-use Rattle.std.proofs.lemmas.List.{drop-append-le, take-append-le, take_more, take_all, drop_at, get_or-drop, get_or-take, drop-take}
+use Rattle.std.proofs.Common.{◌≡◌, ℕ, ◌+◌, ◌<◌, ◌≤◌, List, [], ◌∷◌, ◌++◌, length, get_or, take, drop, refl, ap, ◌∙◌, ap₂, arith, length-drop, length-take}
+use Rattle.std.proofs.lemmas.List.{drop-append-le, take-append-le, take_more, take_all, drop_at, get_or-drop, get_or-take}
 use Rattle.table.specs.Contents.{part}
 
 pub length_part : {X : Type 0} (xs : List X) (s l : ℕ) → s + l ≤ length xs → length (part xs s l) ≡ l

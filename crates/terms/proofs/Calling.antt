@@ -1,23 +1,22 @@
 -- A call's node: the arguments that it lists, and that it is accepted.
-use Rattle.std.proofs.Common.{◌≡◌, ℕ, ◌+◌, ◌<◌, ◌≤◌, Bool, true, not, ◌&&◌, ltb, leb, List, [], ◌∷◌, ◌++◌, map, length, sym, refl, ap, ◌∙◌, ap₂, arith, length-append}
+use Rattle.std.proofs.Common.{◌≡◌, ℕ, ◌+◌, true, not, leb, List, [], ◌∷◌, ◌++◌, map, length, sym, refl, ap, ◌∙◌, arith, length-append}
 use Rattle.std.proofs.lemmas.List.{length-map}
 use Rattle.std.proofs.lemmas.Bool.{and_parts, and_from, le-leb, ltb-true}
 use Rattle.table.specs.Contents.{part}
 use Rattle.table.proofs.Parts.{part-added}
-use Rattle.plan.specs.Terms.{Expr, Exprs, arguments, listed}
+use Rattle.plan.specs.Terms.{Expr, arguments, listed}
 use Rattle.plan.specs.Terms.Expr.{call}
 use Rattle.plan.specs.Functions.{Functions, function_at, is_total}
 use Rattle.plan.specs.Fields.{any, every}
 use Rattle.plan.specs.Questions.{small_tree}
-use Rattle.plan.specs.Model.{expr_in, exprs_in, no_expr}
+use Rattle.plan.specs.Model.{exprs_in, no_expr}
 use Rattle.plan.specs.Calls.{below, all_below, arity_is}
 use Rattle.terms.specs.Acceptance.{acceptable, all_acceptable}
-use Rattle.terms.specs.Build.{entry_number, numbers_in, inside_node}
-use Rattle.terms.specs.Views.{View, grown, numbers_of}
+use Rattle.terms.specs.Build.{entry_number, numbers_in}
+use Rattle.terms.specs.Views.{numbers_of}
 use Rattle.terms.specs.declared.node.Entry.{Entry}
 use Rattle.terms.specs.declared.node.Entry.TheVariants.{Expression}
 use Rattle.terms.specs.declared.node.ExprId.{ExprId}
-use Rattle.terms.specs.declared.node.ExprNode.TheVariants.{Call}
 use Rattle.terms.proofs.Frames.{every-at}
 
 listed-arguments : (ts : List Expr) → listed (arguments ts) ≡ ts

@@ -1,11 +1,9 @@
 -- What spans stand for stays as the text grows.
-use Rattle.std.proofs.Common.{◌≡◌, ℕ, ◌+◌, ◌<◌, ◌≤◌, Bool, true, false, ◌&&◌, leb, List, [], ◌∷◌, ◌++◌, map, length, get_or, set, Some, None, Option, sym, refl, ap, ◌∙◌, ap₂, arith, length-append}
+use Rattle.std.proofs.Common.{◌≡◌, ℕ, ◌+◌, ◌<◌, Bool, true, List, [], ◌∷◌, ◌++◌, map, length, get_or, set, Some, None, Option, refl, ap, ap₂, arith, length-append}
 use Rattle.std.proofs.lemmas.Bool.{and_parts, and_from, leb-true, le-leb}
 use Rattle.table.proofs.Parts.{part-grow}
-use Rattle.plan.specs.Terms.{Field}
 use Rattle.plan.specs.Terms.Qualifier.{qualified}
 use Rattle.plan.specs.Terms.Literal.{text}
-use Rattle.plan.specs.Functions.{Function}
 use Rattle.plan.specs.Fields.{every}
 use Rattle.terms.specs.Spans.{word, span_in, qualifier_at, qualifier_in, field_at, field_in, literal_at, literal_in, stored_field, stored_in, function_in, functions_in, declaration_in}
 use Rattle.terms.specs.declared.node.Span.{Span}

@@ -1,12 +1,11 @@
 -- From what was written to what a building call promises.
-use Rattle.std.proofs.Common.{◌≡◌, ℕ, ◌+◌, ◌<◌, ◌≤◌, Bool, true, ◌&&◌, List, [], ◌∷◌, ◌++◌, length, Some, None, sym, refl, ap, ◌∙◌, ap₂, arith, length-append}
+use Rattle.std.proofs.Common.{◌≡◌, ℕ, ◌+◌, List, [], ◌∷◌, ◌++◌, length, Some, None, sym, refl, ap, ◌∙◌, arith, length-append}
 use Rattle.std.proofs.lemmas.List.{append-nil}
 use Rattle.plan.specs.Terms.{Expr, Qualifier}
 use Rattle.plan.specs.Terms.Qualifier.{unqualified, qualified}
 use Rattle.plan.specs.Faults.{first_no, refusal}
 use Rattle.plan.specs.declared.fault.Fault.{Fault}
 use Rattle.plan.specs.declared.fault.Question.{Question}
-use Rattle.plan.specs.Model.{expr_in}
 use Rattle.plan.specs.Calls.{Call, new_exprs, outlay, qualifier_bytes}
 use Rattle.terms.specs.Building.{bare, all_asked_of, Grew, Kept, qualifier_text}
 use Rattle.terms.specs.Views.{View, grown}

@@ -1,16 +1,13 @@
 -- How the trees follow the tables as these grow.
-use Rattle.std.proofs.Common.{◌≡◌, ℕ, zero, suc, ◌+◌, ◌<◌, ◌≤◌, Bool, true, false, ◌&&◌, ltb, leb, List, [], ◌∷◌, ◌++◌, map, length, get_or, sym, refl, ap, ◌∙◌, subst, ap₂, arith, length-append}
+use Rattle.std.proofs.Common.{◌≡◌, ℕ, ◌+◌, ◌<◌, true, ltb, leb, List, [], ◌∷◌, ◌++◌, map, length, get_or, sym, refl, ap, ◌∙◌, subst, ap₂, arith, length-append}
 use Rattle.std.proofs.lemmas.Bool.{and_parts, and_from, leb-true, le-leb, ltb-true}
-use Rattle.table.specs.Contents.{part}
-use Rattle.table.specs.Fold.{built, all_ok}
 use Rattle.table.proofs.Folds.{built-push, built-length, built-grow, built-from, ok-push}
 use Rattle.table.proofs.Parts.{part-grow}
 use Rattle.plan.specs.Terms.{Expr, arguments}
 use Rattle.plan.specs.Terms.Expr.{literal, reference, alias, call}
-use Rattle.plan.specs.Fields.{every}
 use Rattle.plan.specs.Model.{no_expr, expr_in, exprs_in}
 use Rattle.plan.specs.Calls.{below, all_below}
-use Rattle.terms.specs.Spans.{literal_at, literal_in, field_at, field_in}
+use Rattle.terms.specs.Spans.{field_at, field_in}
 use Rattle.terms.specs.Build.{entry_number, numbers_in, build_node, build, trees, inside_node, inside, sound}
 use Rattle.terms.specs.declared.node.Entry.{Entry}
 use Rattle.terms.specs.declared.node.ExprNode.{ExprNode}

@@ -1,15 +1,12 @@
 -- What a walk over an expression goes by: the arguments of a call, and what a call's references are.
-use Rattle.std.proofs.Common.{◌≡◌, ℕ, ◌+◌, ◌<◌, ◌≤◌, Bool, true, false, not, ◌&&◌, ◌||◌, eqb, ltb, leb, List, [], ◌∷◌, ◌++◌, map, length, get_or, drop, count_by, sym, refl, ap, ◌∙◌, ap₂, arith}
+use Rattle.std.proofs.Common.{◌≡◌, ℕ, ◌+◌, ◌<◌, ◌≤◌, Bool, true, false, ◌&&◌, ◌||◌, eqb, leb, List, [], ◌∷◌, ◌++◌, length, get_or, count_by, sym, refl, ap, ◌∙◌, arith}
 use Rattle.std.proofs.lemmas.List.{length-map, get_or-map}
 use Rattle.std.proofs.lemmas.Bool.{and_parts, leb-true, ltb-true, le-ltb, lt-ltb, eq-eqb, ne_eqb}
 use Rattle.std.proofs.lemmas.List.Sums.{sum_by-append}
 use Rattle.table.specs.Contents.{part}
-use Rattle.table.proofs.Loops.{mapped-step, mapped_end}
 use Rattle.table.proofs.Parts.{length_part}
-use Rattle.plan.specs.Terms.{Field, Expr, Exprs, arguments, references_of, references_of_all, same_field, is_unqualified}
-use Rattle.plan.specs.Terms.Expr.{call}
-use Rattle.plan.specs.Fields.{any, every, named, resolves, resolved}
-use Rattle.plan.specs.Model.{expr_in, exprs_in}
+use Rattle.plan.specs.Terms.{Field, Expr, arguments, references_of, references_of_all}
+use Rattle.plan.specs.Fields.{any, every, resolves, resolved}
 use Rattle.plan.specs.Calls.{below, all_below}
 use Rattle.terms.specs.Build.{entry_number, numbers_in, inside_node}
 use Rattle.terms.specs.Views.{numbers_of}

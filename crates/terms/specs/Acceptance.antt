@@ -1,7 +1,7 @@
 -- What the calls that make an expression or declare a function let pass.
 --     declared f      a declaration that was accepted
 --     acceptable fs e      an expression each node of which its own building call accepts
-use Rattle.std.specs.Prelude.{ℕ, ◌^◌, Bool, true, not, ◌&&◌, length, Some, None, Option, nat_le, nat_lt}
+use Rattle.std.specs.Prelude.{◌^◌, Bool, true, not, ◌&&◌, length, Some, None, Option, nat_le, nat_lt}
 use Rattle.std.specs.Int.Signed.{mag}
 use Rattle.plan.specs.Names.{good_name, prefixed}
 use Rattle.plan.specs.Terms.{Literal, Expr, Exprs, listed}

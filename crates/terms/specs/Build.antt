@@ -1,18 +1,16 @@
 -- The trees that the expression table stands for: each node is built over the trees before it.
 --     build bytes entries ts r, trees bytes entries rs      one tree; all of them
 --     inside bytes entries i r      the record at i names parts of the text, of the lists, and lower numbers only
-use Rattle.std.specs.Prelude.{◌≡◌, ℕ, ◌+◌, Bool, true, cond, ◌&&◌, List, [], ◌∷◌, map, length, ◌==◌, nat_le, nat_lt}
+use Rattle.std.specs.Prelude.{ℕ, ◌+◌, Bool, cond, ◌&&◌, List, [], ◌∷◌, map, length, ◌==◌, nat_le, nat_lt}
 use Rattle.table.specs.Contents.{part}
 use Rattle.table.specs.Fold.{built, all_ok}
-use Rattle.plan.specs.Terms.{Expr, arguments, size_of}
+use Rattle.plan.specs.Terms.{Expr, arguments}
 use Rattle.plan.specs.Terms.Expr.{literal, reference, alias, call}
 use Rattle.plan.specs.Functions.{Functions}
 use Rattle.plan.specs.Rendering.{rendered}
-use Rattle.plan.specs.Fields.{every}
 use Rattle.plan.specs.Model.{expr_in, exprs_in}
 use Rattle.plan.specs.Calls.{all_below}
 use Rattle.terms.specs.Spans.{literal_at, literal_in, field_at, field_in}
-use Rattle.terms.specs.Acceptance.{acceptable}
 use Rattle.terms.specs.declared.node.Entry.{Entry}
 use Rattle.terms.specs.declared.node.Entry.TheVariants.{Expression, Key, Input}
 use Rattle.terms.specs.declared.node.ExprNode.{ExprNode}

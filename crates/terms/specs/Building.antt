@@ -5,7 +5,6 @@
 --     Answered v c r v'      either
 use Rattle.std.specs.Prelude.{◌≡◌, ℕ, ◌+◌, Bool, ◌&&◌, List, [], ◌∷◌, ◌++◌, length, Some, None, Ok, Err, Option, Result, nat_le}
 use Rattle.std.specs.Borrow.{Bor}
-use Rattle.plan.specs.Names.{Name}
 use Rattle.plan.specs.Terms.{Field, Qualifier}
 use Rattle.plan.specs.Terms.Qualifier.{unqualified, qualified}
 use Rattle.plan.specs.Faults.{Asked, first_no, refusal}
@@ -18,7 +17,7 @@ use Rattle.terms.specs.declared.node.Entry.{Entry}
 use Rattle.terms.specs.declared.node.ExprId.{ExprId}
 
 abbrev pub bare : View → Model
-bare v = record { functions = v.functions; exprs = v.trees; plans = []; text = v.bytes; used = space 0 0 0 0 0 }
+bare v = record { functions = v.functions; exprs = v.trees; plans = []; inputs = []; text = v.bytes; used = space 0 0 0 0 0 }
 
 abbrev pub roomy : View → Space → Bool
 roomy v s = nat_le (length v.trees + s.exprs) 1024 && (nat_le (length v.entries + s.entries) 2048 && nat_le (length v.bytes + s.bytes) 16384)

@@ -1,7 +1,7 @@
 -- What spans of the text stand for.
 --     word bytes s, span_in bytes s      the part of the text that a span names; whether it is inside
 --     qualifier_at, field_at, literal_at, function_in      the same of what holds spans
-use Rattle.std.specs.Prelude.{ℕ, ◌+◌, ◌^◌, Bool, true, false, ◌&&◌, List, [], ◌∷◌, map, length, Some, None, Option, nat_le, nat_lt}
+use Rattle.std.specs.Prelude.{ℕ, ◌+◌, ◌^◌, Bool, true, false, ◌&&◌, List, map, length, Some, None, Option, nat_le, nat_lt}
 use Rattle.std.specs.Int.Signed.{mag}
 use Rattle.table.specs.Contents.{part}
 use Rattle.plan.specs.Names.{Name}
@@ -9,7 +9,6 @@ use Rattle.plan.specs.Terms.{Field, Qualifier as Owner, Literal as Constant}
 use Rattle.plan.specs.Terms.Qualifier.{unqualified, qualified}
 use Rattle.plan.specs.Terms.Literal.{null, truth, whole, real, text}
 use Rattle.plan.specs.Functions.{Function, Functions}
-use Rattle.plan.specs.Fields.{every}
 use Rattle.terms.specs.declared.node.Span.{Span}
 use Rattle.terms.specs.declared.node.Qualifier.{Qualifier}
 use Rattle.terms.specs.declared.node.Qualifier.TheVariants.{Unqualified, Qualified}

@@ -2,7 +2,7 @@
 --     View, view_of t      functions, trees, text and lists; those that t holds
 --     grown v ts bs es      the view with these trees, bytes and entries behind
 --     tree_of t e      the tree of an expression
-use Rattle.std.specs.Prelude.{◌≡◌, ℕ, ◌<◌, ◌≤◌, List, [], ◌++◌, map, length}
+use Rattle.std.specs.Prelude.{ℕ, List, ◌++◌, map, length}
 use Rattle.table.specs.Contents.{contents}
 use Rattle.plan.specs.Terms.{Expr}
 use Rattle.plan.specs.Functions.{Functions}

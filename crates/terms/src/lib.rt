@@ -1,4 +1,6 @@
 //! Declared functions and expression trees in fixed tables.
+#![tactic(auto)]
+
 pub mod lexicon;
 pub mod node;
 pub mod terms;

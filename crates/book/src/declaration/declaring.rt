@@ -1,11 +1,12 @@
 //! Functions are declared, and then the book is opened; after that none can be declared.
-ghost use Rattle.book.specs.Declaration.{declared_in, opened, text_in};
-ghost use Rattle.book.specs.Holding.{model_of};
+ghost use Rattle.book.specs.Declaration.{declared_in, text_in};
+ghost use Rattle.book.specs.Opened.{book_of};
+ghost use Rattle.plan.specs.Model.{opened};
 ghost use Rattle.std.specs.Prelude.{◌≡◌, [], replicate, None};
 ghost use Rattle.terms.specs.Declaring.{DeclareAnswered};
 
 use super::Book;
-use crate::tables::OpenBook;
+use crate::opened::OpenBook;
 use plan::fault::Fault;
 use terms::lexicon::Lexicon;
 
@@ -36,7 +37,7 @@ impl Book {
 
     /// The open book with the functions that were declared.
     pub fn open(self) -> OpenBook
-        ensures { model_of result ≡ opened (declared_in self) (text_in self) }
+        ensures { book_of result ≡ opened (declared_in self) (text_in self) }
     {
         OpenBook::open(self.lexicon)
     }

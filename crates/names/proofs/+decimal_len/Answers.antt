@@ -1,4 +1,4 @@
-use Rattle.std.proofs.Common.{◌≡◌, ◌/◌, ◌^◌, ◌<◌, ◌≤◌, sym, ap, ◌∙◌, arith, rules}
+use Rattle.std.proofs.Common.{◌^◌, ◌<◌, sym, arith, rules}
 use Rattle.names.proofs.Numbers.{one-long, more-long, at-most-20}
 use Rattle.names.proofs.+decimal_len.Goals as goal
 

@@ -1,7 +1,7 @@
-use Rattle.std.proofs.Common.{◌≡◌, ◌+◌, ◌/◌, ◌%◌, ◌^◌, ◌<◌, ◌≤◌, [], ◌∷◌, ◌++◌, length, decimal, sym, ap, ◌∙◌, arith, length-append, rules}
+use Rattle.std.proofs.Common.{◌^◌, ◌<◌, ◌++◌, length, decimal, sym, ap, ◌∙◌, arith, length-append, rules}
 use Rattle.table.specs.Contents.{contents}
 use Rattle.std.proofs.lemmas.Fmt.{decimal_digit}
-use Rattle.names.proofs.Numbers.{one-long, more-long, written-more}
+use Rattle.names.proofs.Numbers.{one-long, written-more}
 use Rattle.names.proofs.+write_decimal.Goals as goal
 
 pub push-requires : goal.push-requires

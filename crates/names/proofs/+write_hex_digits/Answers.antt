@@ -1,4 +1,4 @@
-use Rattle.std.proofs.Common.{◌≡◌, ◌+◌, ◌-◌, ◌/◌, ◌<◌, [], ◌∷◌, ◌++◌, length, ap, ◌∙◌, arith, length-append, rules}
+use Rattle.std.proofs.Common.{◌-◌, ◌/◌, ◌<◌, [], ◌∷◌, ◌++◌, length, ap, ◌∙◌, arith, length-append, rules}
 use Rattle.plan.specs.Rendering.{hex_onto}
 use Rattle.table.specs.Contents.{contents}
 use Rattle.names.proofs.Numbers.{hex-more, hex-long}

@@ -68,4 +68,11 @@ impl Lexicon {
         }
         self.functions[number as usize]
     }
+
+    /// The whole text.
+    pub fn bytes(&self) -> &[u8]
+        ensures { result.now ≡ text_of self.now }
+    {
+        self.text.as_slice()
+    }
 }

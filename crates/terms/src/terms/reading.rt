@@ -1,8 +1,9 @@
 //! What is asked of expressions.
-ghost use Rattle.std.specs.Prelude.{◌≡◌, ◌+◌, ◌<◌, ◌≤◌, true, ◌++◌, map, length, count_by, slice_index};
+ghost use Rattle.std.specs.Prelude.{◌≡◌, ◌+◌, ◌<◌, ◌≤◌, true, ◌++◌, map, length, count_by, slice_index, slice_index_or};
 ghost use Rattle.plan.specs.Fields.{any, every, named, resolved, resolves};
 ghost use Rattle.plan.specs.Functions.{function_at, is_total, rule_in};
 ghost use Rattle.plan.specs.Terms.{same_field, size_of};
+ghost use Rattle.table.specs.Contents.{part};
 ghost use Rattle.terms.specs.Build.{inside_node, numbers_in, width_of};
 ghost use Rattle.terms.specs.Spans.{declaration_in, field_at, field_in, function_in, span_in, stored_field, stored_in, word};
 ghost use Rattle.terms.specs.Views.{count, tree_for, tree_of, view_of};
@@ -87,6 +88,23 @@ impl Terms {
         }
     }
 
+    /// The entry at a place of a list.
+    pub fn entry(&self, first: u32, count: u32, i: u32) -> Entry
+        requires inside { first + count ≤ length (view_of self.now).entries }
+        requires below { i < count }
+        ensures { (d : Entry) → result ≡ slice_index_or (part (view_of self.now).entries first count) i d }
+    {
+        self.entries.get((first + i) as usize)
+    }
+
+    /// The entries of a list.
+    pub fn entries(&self, first: u32, count: u32) -> &[Entry]
+        requires { first + count ≤ length (view_of self.now).entries }
+        ensures { result.now ≡ part (view_of self.now).entries first count }
+    {
+        self.entries.part(first as usize, count as usize)
+    }
+
     /// The expression at a place of a list.
     pub fn listed(&self, first: u32, count: u32, i: u32) -> ExprId
         requires inside { first + count ≤ length (view_of self.now).entries }
@@ -114,5 +132,12 @@ impl Terms {
                 _ => false,
             },
         }
+    }
+
+    /// The whole text.
+    pub fn bytes(&self) -> &[u8]
+        ensures { result.now ≡ (view_of self.now).bytes }
+    {
+        self.lexicon.bytes()
     }
 }

@@ -1,6 +1,6 @@
 use Rattle.std.proofs.Common.{arith, lit<}
 use Rattle.table.specs.Contents.{contents}
-use Rattle.terms.specs.Views.{count, view_of, numbers_of}
+use Rattle.terms.specs.Views.{count, view_of}
 use Rattle.terms.specs.declared.node.ExprId.{ExprId}
 use Rattle.terms.proofs.Walks.{one_below}
 use Rattle.draft.proofs.Growing.{fields-none, fields-more, fields-all, fields-length}

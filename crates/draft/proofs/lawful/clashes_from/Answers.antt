@@ -1,4 +1,4 @@
-use Rattle.std.proofs.Common.{◌≡◌, ◌+◌, ◌||◌, map, drop, sym, ap, ◌∙◌, arith}
+use Rattle.std.proofs.Common.{◌+◌, ◌||◌, map, drop, sym, ap, ◌∙◌}
 use Rattle.table.proofs.Loops.{mapped-step, mapped_end}
 use Rattle.plan.specs.Fields.{any, clash}
 use Rattle.terms.specs.Views.{view_of}

@@ -1,4 +1,4 @@
-use Rattle.std.proofs.Common.{◌≡◌, ◌+◌, not, ◌&&◌, map, drop, sym, ap, ◌∙◌, arith}
+use Rattle.std.proofs.Common.{◌+◌, not, ◌&&◌, map, drop, sym, ap, ◌∙◌, arith}
 use Rattle.table.proofs.Loops.{mapped-step, mapped_end}
 use Rattle.plan.specs.Fields.{lawful}
 use Rattle.terms.specs.Views.{view_of}

@@ -1,4 +1,4 @@
-use Rattle.std.proofs.Common.{◌≡◌, ◌+◌, ◌&&◌, drop, sym, ap, ◌∙◌}
+use Rattle.std.proofs.Common.{◌+◌, ◌&&◌, drop, sym, ap, ◌∙◌}
 use Rattle.table.proofs.Loops.{twice-step, twice-end}
 use Rattle.plan.specs.Fields.{every}
 use Rattle.plan.specs.Model.{expr_in, exprs_in}

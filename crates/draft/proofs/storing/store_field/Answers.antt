@@ -1,6 +1,5 @@
 use Rattle.draft.proofs.Keeping.{stored-from}
 use Rattle.terms.specs.Views.{view_of}
-use Rattle.std.proofs.Common.{◌&&◌}
 use Rattle.std.proofs.lemmas.Bool.{and_parts}
 use Rattle.terms.specs.Spans.{word}
 use Rattle.draft.specs.Drafts.{word_in, owner_in}

@@ -1,11 +1,11 @@
-use Rattle.std.proofs.Common.{◌≡◌, ◌+◌, sym, refl, ap, ◌∙◌, subst, arith}
+use Rattle.std.proofs.Common.{◌+◌, sym, refl, ap, ◌∙◌, subst, arith}
 use Rattle.std.proofs.lemmas.Bool.{ltb-true, le-leb}
 use Rattle.table.proofs.Held.{held}
 use Rattle.terms.specs.Spans.{word}
 use Rattle.terms.specs.Views.{view_of}
 use Rattle.terms.specs.declared.node.Span.{Span}
 use Rattle.draft.specs.Drafts.{word_in, word_bytes, WordAs}
-use Rattle.draft.specs.declared.word.Word.TheVariants.{Stored, Owner, Given, Rendered}
+use Rattle.draft.specs.declared.word.Word.TheVariants.{Stored, Owner, Given}
 use Rattle.draft.proofs.Keeping.{word_none, given-part}
 use Rattle.draft.proofs.storing.store_word.Goals as goal
 

@@ -1,6 +1,5 @@
 use Rattle.std.proofs.Common.{◌≡◌, ℕ, List, [], ◌++◌, length, ap, ◌∙◌, arith}
-use Rattle.plan.specs.Rendering.{rendered}
-use Rattle.terms.specs.Views.{view_of, tree_of, grown}
+use Rattle.terms.specs.Views.{view_of, grown}
 use Rattle.draft.proofs.Words.{short}
 use Rattle.draft.proofs.storing.write_rendered.Goals as goal
 

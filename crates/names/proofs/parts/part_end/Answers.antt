@@ -1,4 +1,4 @@
-use Rattle.std.proofs.Common.{◌≡◌, ◌≤◌, length, subst, arith}
+use Rattle.std.proofs.Common.{◌≡◌, length, subst, arith}
 use Rattle.std.proofs.lemmas.Bool.{eq-eqb, ne_eqb}
 use Rattle.names.proofs.Parting.{Open, open-start, open_more, open-comma, open-end}
 use Rattle.names.proofs.parts.part_end.Goals as goal

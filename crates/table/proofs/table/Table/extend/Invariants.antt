@@ -1,4 +1,4 @@
-use Rattle.std.proofs.Common.{◌≡◌, ◌+◌, ◌≤◌, ◌++◌, take}
+use Rattle.std.proofs.Common.{◌≡◌, ◌+◌, ◌++◌, take}
 use Rattle.table.proofs.table.Table.extend.Given as goal
 
 abbrev pub invariant-loop-i : goal.invariant-loop-i

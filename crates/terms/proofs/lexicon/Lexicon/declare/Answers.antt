@@ -1,4 +1,4 @@
-use Rattle.std.proofs.Common.{◌≡◌, not, ◌&&◌, ltb, leb, is_some, sym, ap, ◌∙◌}
+use Rattle.std.proofs.Common.{not, ◌&&◌, ltb, leb, is_some, sym, ap, ◌∙◌}
 use Rattle.std.proofs.lemmas.Bool.{and_from, and_parts, ltb-true}
 use Rattle.plan.specs.Codes.{rule_of}
 use Rattle.plan.specs.Functions.{function_at}

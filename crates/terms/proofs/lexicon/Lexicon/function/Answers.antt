@@ -1,4 +1,4 @@
-use Rattle.std.proofs.Common.{◌≡◌, length, None, sym, refl, arith}
+use Rattle.std.proofs.Common.{None, sym, refl, arith}
 use Rattle.std.proofs.lemmas.List.{get_or_past, get_or-map, length-map}
 use Rattle.terms.specs.Lexicon.{functions_of, text_of}
 use Rattle.terms.specs.Spans.{function_in, declaration_in}

@@ -1,6 +1,6 @@
-use Rattle.std.proofs.Common.{◌≡◌, true, ◌++◌, length, sym, refl, ap, ◌∙◌, subst, ap₂, arith, length-append}
+use Rattle.std.proofs.Common.{length, ap, ◌∙◌, arith, length-append}
 use Rattle.std.proofs.lemmas.Bool.{le-leb}
-use Rattle.table.specs.Contents.{contents, part}
+use Rattle.table.specs.Contents.{contents}
 use Rattle.table.proofs.Parts.{part-added}
 use Rattle.plan.specs.Fields.{every}
 use Rattle.terms.specs.Acceptance.{good_function}

@@ -1,8 +1,7 @@
-use Rattle.std.proofs.Common.{◌≡◌, ℕ, ◌+◌, ◌<◌, ◌≤◌, List, [], ◌∷◌, ◌++◌, map, length, get_or, take, sym, refl, ap, ◌∙◌, arith, lit<, length-append}
+use Rattle.std.proofs.Common.{◌≡◌, ℕ, ◌<◌, List, ◌++◌, map, length, get_or, take, sym, ap, ◌∙◌, arith, lit<, length-append}
 use Rattle.std.proofs.lemmas.List.{append_assoc, append-nil, length-map, get_or-map, take_all}
 use Rattle.table.specs.Contents.{contents}
 use Rattle.plan.specs.Terms.{Expr, arguments}
-use Rattle.plan.specs.Functions.{function_at, name_in}
 use Rattle.plan.specs.Rendering.{rendered, rendered_all}
 use Rattle.plan.specs.Model.{expr_in, no_expr}
 use Rattle.terms.specs.Build.{numbers_in, gap, width_of}

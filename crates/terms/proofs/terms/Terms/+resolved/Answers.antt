@@ -1,11 +1,10 @@
-use Rattle.std.proofs.Common.{◌≡◌, ◌+◌, ◌<◌, ◌&&◌, ◌++◌, map, length, get_or, drop, sym, ap, ◌∙◌, arith}
-use Rattle.table.specs.Contents.{contents}
+use Rattle.std.proofs.Common.{◌+◌, ◌<◌, ◌&&◌, ◌++◌, map, length, drop, sym, ap, ◌∙◌, arith}
 use Rattle.table.proofs.Loops.{mapped-step, mapped_end}
 use Rattle.plan.specs.Fields.{every, resolved}
 use Rattle.plan.specs.Model.{expr_in}
 use Rattle.terms.specs.Build.{numbers_in}
 use Rattle.terms.specs.Spans.{stored_field}
-use Rattle.terms.specs.Views.{view_of, tree_of}
+use Rattle.terms.specs.Views.{view_of}
 use Rattle.terms.proofs.Walks.{called, resolved-arguments}
 use Rattle.terms.proofs.terms.Terms.+resolved.Goals as goal
 

@@ -1,11 +1,11 @@
-use Rattle.std.proofs.Common.{◌≡◌, true, [], ◌∷◌, ◌++◌, sym, refl, ap, ◌∙◌, subst, arith, lit<}
+use Rattle.std.proofs.Common.{◌≡◌, true, [], sym, refl, ◌∙◌, subst, arith, lit<}
 use Rattle.std.proofs.lemmas.List.{append-nil}
 use Rattle.table.specs.Contents.{contents}
 use Rattle.terms.specs.Build.{inside_node}
 use Rattle.terms.specs.Lexicon.{functions_of, text_of}
-use Rattle.terms.specs.Views.{view_of, grown}
+use Rattle.terms.specs.Views.{view_of}
 use Rattle.terms.specs.declared.node.ExprRecord.{ExprRecord}
-use Rattle.terms.proofs.Facts.{Facts, facts-of, facts-pushed, same_view, counted}
+use Rattle.terms.proofs.Facts.{facts-of, facts-pushed, same_view, counted}
 use Rattle.terms.proofs.Trees.{trees-push}
 use Rattle.terms.proofs.terms.Terms.add.Goals as goal
 

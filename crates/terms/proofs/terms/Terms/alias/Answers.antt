@@ -1,14 +1,11 @@
-use Rattle.std.proofs.Common.{◌≡◌, ◌+◌, ◌<◌, ◌≤◌, Bool, true, ◌&&◌, [], ◌∷◌, length, sym, refl, ap, ◌∙◌, ap₂, arith, rules}
-use Rattle.std.proofs.lemmas.Bool.{and_from, lt-ltb, leb-true, ltb-true}
-use Rattle.plan.specs.Terms.{size_of}
+use Rattle.std.proofs.Common.{◌≡◌, ◌+◌, ◌<◌, [], ◌∷◌, length, sym, refl, ap, ◌∙◌, ap₂, arith, rules}
+use Rattle.std.proofs.lemmas.Bool.{and_from, lt-ltb, ltb-true}
 use Rattle.plan.specs.Terms.Expr.{alias}
 use Rattle.plan.specs.Calls.{good_alias, qualifier_bytes}
-use Rattle.plan.specs.Questions.{small_tree}
 use Rattle.plan.specs.Model.{space, expr_in}
-use Rattle.plan.specs.Fields.{every}
 use Rattle.terms.specs.Acceptance.{acceptable}
 use Rattle.terms.specs.Building.{given_field, given_qualifier}
-use Rattle.terms.specs.Views.{view_of, tree_of}
+use Rattle.terms.specs.Views.{view_of}
 use Rattle.terms.proofs.Bounds.{alias-parts, field-parts, name-short}
 use Rattle.terms.proofs.Facts.{roomy-parts, same_count}
 use Rattle.terms.proofs.Frames.{every-at}

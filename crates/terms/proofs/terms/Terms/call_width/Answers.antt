@@ -1,7 +1,7 @@
-use Rattle.std.proofs.Common.{◌≡◌, ℕ, ◌+◌, ◌-◌, ◌≤◌, List, [], ◌∷◌, length, sym, refl, ap, ◌∙◌, arith, length-append}
-use Rattle.plan.specs.Functions.{Functions, function_at, name_in}
+use Rattle.std.proofs.Common.{◌≡◌, ◌-◌, List, [], ◌∷◌, length, refl, ap, arith}
+use Rattle.plan.specs.Functions.{Functions}
 use Rattle.plan.specs.Model.{exprs_in}
-use Rattle.plan.specs.Rendering.{rendered, rendered_all, rendered_rest}
+use Rattle.plan.specs.Rendering.{rendered_all, rendered_rest}
 use Rattle.plan.specs.Terms.{Expr, arguments}
 use Rattle.terms.specs.Views.{view_of, numbers_of}
 use Rattle.terms.proofs.Bounds.{function-named}

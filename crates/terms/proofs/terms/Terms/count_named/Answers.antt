@@ -1,9 +1,9 @@
-use Rattle.std.proofs.Common.{◌≡◌, true, sym, ◌∙◌, ap₂, arith}
+use Rattle.std.proofs.Common.{sym, ◌∙◌, ap₂, arith}
 use Rattle.std.specs.Str.{bytes_eq}
 use Rattle.std.proofs.lemmas.Bool.{and_parts}
 use Rattle.table.proofs.Loops.{counted-yes, counted-no, counted-all}
 use Rattle.plan.specs.Fields.{named}
-use Rattle.terms.specs.Spans.{stored_field, stored_in, span_in, qualifier_in, word}
+use Rattle.terms.specs.Spans.{stored_field, stored_in, word}
 use Rattle.terms.specs.Views.{view_of}
 use Rattle.terms.specs.declared.node.StoredField.{StoredField}
 use Rattle.terms.specs.declared.node.Qualifier.TheVariants.{Unqualified}

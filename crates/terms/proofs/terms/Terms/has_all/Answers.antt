@@ -1,18 +1,8 @@
-use Rattle.std.proofs.Common.{◌≡◌, ℕ, ◌+◌, ◌*◌, ◌<◌, ◌≤◌, true, ◌&&◌, ◌||◌, map, length, get_or, drop, sym, ap, ◌∙◌, arith, length-append}
-use Rattle.table.proofs.Loops.{mapped-step, mapped_end, twice-step, twice-end}
+use Rattle.std.proofs.Common.{◌+◌, ◌&&◌, drop, sym, ap, ◌∙◌}
+use Rattle.table.proofs.Loops.{mapped-step, mapped_end}
 use Rattle.plan.specs.Calls.{all_below}
-use Rattle.plan.specs.Fields.{any}
-use Rattle.plan.specs.Functions.{is_total}
-use Rattle.plan.specs.Model.{expr_in, exprs_in}
-use Rattle.plan.specs.Rendering.{rendered, rendered_rest}
-use Rattle.plan.specs.Terms.{Expr, arguments, size_of, sizes_of}
-use Rattle.terms.specs.Acceptance.{acceptable}
-use Rattle.terms.specs.Build.{width_of}
-use Rattle.terms.specs.Views.{count, view_of, tree_of, numbers_of}
+use Rattle.terms.specs.Views.{count, numbers_of}
 use Rattle.terms.specs.declared.node.ExprId.{ExprId}
-use Rattle.terms.proofs.Bounds.{small, width-le}
-use Rattle.terms.proofs.Frames.{every-at}
-use Rattle.terms.proofs.Walks.{one_below}
 use Rattle.terms.proofs.terms.Terms.has_all.Goals as goal
 
 abbrev zero : ExprId

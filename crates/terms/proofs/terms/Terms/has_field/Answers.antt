@@ -1,4 +1,4 @@
-use Rattle.std.proofs.Common.{◌≡◌, ◌+◌, true, ◌||◌, map, drop, sym, ap, ◌∙◌, arith}
+use Rattle.std.proofs.Common.{◌+◌, ◌||◌, map, drop, sym, ap, ◌∙◌}
 use Rattle.table.proofs.Loops.{mapped-step, mapped_end}
 use Rattle.plan.specs.Fields.{any}
 use Rattle.plan.specs.Terms.{same_field}

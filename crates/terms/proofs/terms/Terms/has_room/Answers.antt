@@ -1,5 +1,5 @@
-use Rattle.std.proofs.Common.{◌≡◌, ℕ, ◌+◌, ◌<◌, ◌≤◌, Bool, true, false, ◌&&◌, leb, length, sym, ap, ◌∙◌, ap₂, arith}
-use Rattle.std.proofs.lemmas.Bool.{and_left, and_right, le-leb, lt-leb, leb-true, leb-false}
+use Rattle.std.proofs.Common.{◌≡◌, ◌+◌, true, ◌&&◌, leb, length, sym, ◌∙◌, ap₂, arith}
+use Rattle.std.proofs.lemmas.Bool.{and_left, and_right, le-leb, lt-leb}
 use Rattle.terms.specs.Views.{view_of}
 use Rattle.terms.proofs.Facts.{counted, shifted}
 use Rattle.terms.proofs.terms.Terms.has_room.Goals as goal

@@ -1,10 +1,10 @@
-use Rattle.std.proofs.Common.{◌≡◌, [], ◌∷◌, ◌++◌, map, sym, refl, ap, ◌∙◌}
+use Rattle.std.proofs.Common.{[], map, sym, refl, ◌∙◌}
 use Rattle.std.proofs.lemmas.List.{append-nil}
 use Rattle.table.specs.Contents.{contents}
 use Rattle.terms.specs.Lexicon.{functions_of, text_of}
-use Rattle.terms.specs.Views.{view_of, grown}
+use Rattle.terms.specs.Views.{view_of}
 use Rattle.terms.specs.declared.node.Entry.TheVariants.{Expression}
-use Rattle.terms.proofs.Facts.{Facts, facts-of, facts-grown, same_view}
+use Rattle.terms.proofs.Facts.{facts-of, facts-grown, same_view}
 use Rattle.terms.proofs.Trees.{trees-grown}
 use Rattle.terms.proofs.terms.Terms.list.Goals as goal
 

@@ -1,10 +1,10 @@
-use Rattle.std.proofs.Common.{◌≡◌, ℕ, ◌+◌, ◌<◌, ◌≤◌, List, map, length, get_or, sym, ap, ◌∙◌, arith}
+use Rattle.std.proofs.Common.{◌≡◌, ℕ, ◌+◌, ◌<◌, ◌≤◌, List, length, get_or, sym, ap, ◌∙◌, arith}
 use Rattle.std.proofs.lemmas.List.{get_or-map}
 use Rattle.table.specs.Contents.{contents, part}
 use Rattle.table.proofs.Parts.{get_d_part, length_part}
 use Rattle.terms.specs.Build.{entry_number, numbers_in}
 use Rattle.terms.specs.declared.node.Entry.{Entry}
-use Rattle.terms.specs.declared.node.Entry.TheVariants.{Expression, Key, Input}
+use Rattle.terms.specs.declared.node.Entry.TheVariants.{Expression, Input}
 use Rattle.terms.proofs.terms.Terms.listed.Goals as goal
 
 entry_at : (es : List Entry) (first count i : ℕ) (x : Entry) → first + count ≤ length es → i < count → x ≡ get_or es (first + i) x → entry_number x ≡ get_or (numbers_in es first count) i 0

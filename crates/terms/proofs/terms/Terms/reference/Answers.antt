@@ -1,4 +1,4 @@
-use Rattle.std.proofs.Common.{◌≡◌, ◌+◌, true, [], ◌∷◌, ◌++◌, length, sym, refl, ap, ◌∙◌, arith, rules}
+use Rattle.std.proofs.Common.{◌+◌, [], ◌∷◌, ◌++◌, length, sym, refl, ap, ◌∙◌, arith, rules}
 use Rattle.plan.specs.Calls.{good_field, qualifier_bytes}
 use Rattle.terms.specs.Building.{given_qualifier}
 use Rattle.plan.specs.Model.{space}

@@ -1,4 +1,4 @@
-use Rattle.std.proofs.Common.{◌≡◌, ℕ, ◌+◌, min, Bool, true, false, cond, ◌||◌, eqb, List, ◌++◌, map, count_by, sym, refl, ap, ◌∙◌, ap₂, arith}
+use Rattle.std.proofs.Common.{◌≡◌, ℕ, ◌+◌, Bool, cond, ◌||◌, eqb, List, ◌++◌, map, count_by, sym, ap, ◌∙◌, ap₂, arith}
 use Rattle.plan.specs.Fields.{any, named, resolves}
 use Rattle.plan.specs.Terms.{Field, is_unqualified, same_field}
 use Rattle.terms.specs.declared.node.Span.{Span}

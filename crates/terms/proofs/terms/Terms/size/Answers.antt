@@ -1,8 +1,6 @@
 use Rattle.std.proofs.Common.{arith, lit<}
 use Rattle.table.specs.Contents.{contents}
 use Rattle.plan.specs.Terms.{size_of}
-use Rattle.terms.specs.Build.{width_of}
-use Rattle.terms.specs.Lexicon.{functions_of}
 use Rattle.terms.specs.Views.{view_of}
 use Rattle.terms.proofs.Facts.{counted, kept_at}
 use Rattle.terms.proofs.terms.Terms.size.Goals as goal

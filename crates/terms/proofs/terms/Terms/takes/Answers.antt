@@ -1,4 +1,4 @@
-use Rattle.std.proofs.Common.{◌≡◌, eqb, length, sym, ap, ◌∙◌}
+use Rattle.std.proofs.Common.{eqb, length, sym, ap, ◌∙◌}
 use Rattle.terms.specs.Views.{numbers_of}
 use Rattle.std.proofs.lemmas.List.{length-map}
 use Rattle.plan.specs.Calls.{arity_is}

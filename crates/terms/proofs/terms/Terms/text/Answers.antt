@@ -1,4 +1,4 @@
-use Rattle.std.proofs.Common.{◌≡◌, true, length, sym, refl, ap, ◌∙◌, arith}
+use Rattle.std.proofs.Common.{length, sym, refl, ap, ◌∙◌, arith}
 use Rattle.plan.specs.Names.{good_name}
 use Rattle.plan.specs.Model.{space}
 use Rattle.terms.specs.Views.{view_of}

@@ -1,11 +1,10 @@
-use Rattle.std.proofs.Common.{◌≡◌, ℕ, ◌+◌, ◌≤◌, true, List, [], ◌++◌, length, Some, sym, refl, ap, ◌∙◌, subst, ap₂, arith, length-append}
-use Rattle.std.proofs.lemmas.List.{append_assoc, append-nil}
+use Rattle.std.proofs.Common.{◌≡◌, ◌+◌, ◌≤◌, [], ◌++◌, length, sym, ap, ◌∙◌, subst, ap₂, arith, length-append}
 use Rattle.std.proofs.lemmas.Bool.{and_from}
 use Rattle.plan.specs.Terms.Qualifier.{qualified}
 use Rattle.terms.specs.Building.{qualifier_text, given_qualifier, given_field}
 use Rattle.plan.specs.Calls.{qualifier_bytes}
 use Rattle.terms.specs.Spans.{word, span_in}
-use Rattle.terms.specs.Views.{View, view_of, grown}
+use Rattle.terms.specs.Views.{view_of, grown}
 use Rattle.terms.proofs.Frames.{span_grow}
 use Rattle.terms.proofs.Facts.{grown-twice}
 use Rattle.terms.proofs.terms.Terms.write_field.Goals as goal

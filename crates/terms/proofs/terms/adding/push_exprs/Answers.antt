@@ -1,4 +1,4 @@
-use Rattle.std.proofs.Common.{◌≡◌, ap, ◌∙◌, arith, lit<}
+use Rattle.std.proofs.Common.{arith, lit<}
 use Rattle.table.specs.Contents.{contents}
 use Rattle.table.proofs.Copies.{copied_more, copied_all, copied-length}
 use Rattle.terms.specs.declared.node.Entry.TheVariants.{Expression}

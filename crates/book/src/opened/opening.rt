@@ -1,0 +1,20 @@
+//! A book that was just opened.
+ghost use Rattle.book.specs.Opened.{book_of};
+ghost use Rattle.plan.specs.Model.{opened};
+ghost use Rattle.terms.specs.Lexicon.{functions_of, text_of};
+ghost use Rattle.std.specs.Prelude.{◌≡◌};
+
+use super::OpenBook;
+use tables::tables::Tables;
+use terms::lexicon::Lexicon;
+
+impl OpenBook {
+    /// No expression and no node.
+    pub fn open(lexicon: Lexicon) -> OpenBook
+        ensures { book_of result ≡ opened (functions_of lexicon) (text_of lexicon) }
+    {
+        OpenBook {
+            tables: Tables::open(lexicon),
+        }
+    }
+}

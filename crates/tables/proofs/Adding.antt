@@ -1,0 +1,196 @@
+-- A node that has passed its questions is stored: what the tables hold then.
+use Rattle.std.proofs.Common.{◌≡◌, ℕ, ◌+◌, ◌≤◌, true, ◌&&◌, leb, List, [], ◌∷◌, ◌++◌, map, length, sum_by, sym, refl, ap, ◌∙◌, subst, ap₂, arith, length-append}
+use Rattle.std.proofs.lemmas.List.{append-nil, append_assoc, length-map, length_push, map_push}
+use Rattle.std.proofs.lemmas.Bool.{and_parts, and_from, leb-true, le-leb}
+use Rattle.table.specs.Contents.{contents, part}
+use Rattle.table.proofs.Parts.{part-added}
+use Rattle.plan.specs.Plans.{fields_of, plan_size_of}
+use Rattle.plan.specs.Fields.{every}
+use Rattle.plan.specs.Questions.{limited, expressions_of, shown_expressions, small_tree, short_name}
+use Rattle.plan.specs.Model.{Space, fits}
+use Rattle.plan.specs.Names.{good_name}
+use Rattle.plan.specs.Calls.{rendered_bytes, parts}
+use Rattle.terms.specs.Spans.{word, stored_field, stored_in}
+use Rattle.terms.specs.Views.{View, grown}
+use Rattle.terms.specs.declared.node.Entry.{Entry}
+use Rattle.terms.specs.declared.node.Entry.TheVariants.{Expression, Input}
+use Rattle.terms.specs.declared.node.PlanId.{PlanId}
+use Rattle.terms.specs.declared.node.StoredField.{StoredField}
+use Rattle.terms.proofs.Bounds.{name-short}
+use Rattle.draft.specs.Drafts.{draft_field, draft_in, draft_bytes, StoredAll}
+use Rattle.draft.specs.declared.word.DraftField.{DraftField}
+use Rattle.draft.proofs.Keeping.{drafts-grown}
+use Rattle.tables.specs.Stored.{fields_in, build_plan_node, build_plan, plan_nodes, node_trees, node_inputs, inputs_from, inside_node, accepted_node, inside_plan}
+use Rattle.tables.specs.Holding.{view_in, nodes_of, trees_in, plan_count, model_from, model_of}
+use Rattle.tables.specs.Making.{tree_for, tree_over, entries_for, bytes_for, outlay_for, bounded, well_named, inputs_for, NodeStored}
+use Rattle.tables.specs.Placing.{key_entry, own_text, own_entries, lent_owner, lent_given, PlacedAs}
+use Rattle.tables.specs.declared.node.NewNode.{NewNode}
+use Rattle.tables.specs.declared.node.NewNode.TheVariants.{Table, Projection, Filter, Sort, Limit, Aggregate, Join, SubqueryAlias, Union}
+use Rattle.tables.specs.declared.node.PlanRecord.{PlanRecord}
+use Rattle.tables.specs.declared.placing.Placed.{Placed}
+use Rattle.tables.specs.declared.tables.Tables.{Tables}
+use Rattle.tables.proofs.PlanFrames.{node-grow, accepted-grow, inputs-grow, all-inputs-grow, plans-grow}
+use Rattle.tables.proofs.PlanFacts.{PlanFacts, facts-grow, facts-push, nodes-push}
+use Rattle.tables.proofs.Held.{facts-in, counted}
+use Rattle.tables.proofs.Answers.{space-same}
+use Rattle.tables.proofs.Draftings.{ShownDraft, names-short}
+
+pub own-bytes : (n : NewNode) → length (own_text n) ≡ bytes_for n
+own-bytes (Table q ns) = length-append q.now ns.now
+own-bytes (Projection i l) = refl
+own-bytes (Filter i e) = refl
+own-bytes (Sort i ks) = refl
+own-bytes (Limit i s c) = refl
+own-bytes (Aggregate i gs us) = refl
+own-bytes (Join k l r cs) = refl
+own-bytes (SubqueryAlias i n) = refl
+own-bytes (Union is) = refl
+
+pub own-entries : (n : NewNode) → length (own_entries n) ≡ entries_for n
+own-entries (Table q ns) = refl
+own-entries (Projection i l) = length-map l.now Expression
+own-entries (Filter i e) = refl
+own-entries (Sort i ks) = length-map ks.now key_entry
+own-entries (Limit i s c) = refl
+own-entries (Aggregate i gs us) =
+    length-append (map Expression gs.now) (map Expression us.now) ∙ ap₂ (λ a b. a + b) (length-map gs.now Expression) (length-map us.now Expression)
+own-entries (Join k l r cs) = length-map cs.now Expression
+own-entries (SubqueryAlias i n) = refl
+own-entries (Union is) = length-map is.now Input
+
+-- lent names are short
+pub lent-short : (n : NewNode) → well_named n ≡ true → bounded n ≡ true → (length (lent_owner n) ≤ 131072) × (length (lent_given n) ≤ 131072)
+lent-short (Table q ns) h b =
+    let p = and_parts (good_name q.now) (every good_name (parts ns.now)) h in
+    (omega (arith, name-short q.now p.0), omega (arith, names-short ns.now p.1 (leb-true _ _ b)))
+lent-short (Projection i l) h b = (omega arith, omega arith)
+lent-short (Filter i e) h b = (omega arith, omega arith)
+lent-short (Sort i ks) h b = (omega arith, omega arith)
+lent-short (Limit i s c) h b = (omega arith, omega arith)
+lent-short (Aggregate i gs us) h b = (omega arith, omega arith)
+lent-short (Join k l r cs) h b = (omega arith, omega arith)
+lent-short (SubqueryAlias i n) h b = (omega (arith, name-short n.now h), omega arith)
+lent-short (Union is) h b = (omega arith, omega arith)
+
+-- what room for so much says of each table
+pub fits-parts : (a o : Space) → fits a o ≡ true
+    → (a.plans + o.plans ≤ 128) × (a.entries + o.entries ≤ 2048) × (a.fields + o.fields ≤ 2048) × (a.bytes + o.bytes ≤ 16384)
+fits-parts a o h =
+    let e = leb (a.exprs + o.exprs) 1024 in
+    let p = leb (a.plans + o.plans) 128 in
+    let l = leb (a.entries + o.entries) 2048 in
+    let f = leb (a.fields + o.fields) 2048 in
+    let b = leb (a.bytes + o.bytes) 16384 in
+    let x = and_parts (e && p) (l && (f && b)) h in
+    let y = and_parts e p x.0 in
+    let z = and_parts l (f && b) x.1 in
+    let w = and_parts f b z.1 in
+    (leb-true _ _ y.1, leb-true _ _ z.0, leb-true _ _ w.0, leb-true _ _ w.1)
+
+grown-then : (v w u : View) (a b : List ℕ) (e : List Entry) → w ≡ grown v [] a e → u ≡ grown w [] b [] → u ≡ grown v [] (a ++ b) e
+grown-then v w u a b e p q =
+    q ∙ ap (λ x. grown x [] b []) p
+    ∙ Rattle.terms.proofs.Facts.same_view v v.functions v.trees [] v.bytes (a ++ b) v.entries e v.functions ((v.trees ++ []) ++ []) ((v.bytes ++ a) ++ b) ((v.entries ++ e) ++ []) refl refl (append-nil (v.trees ++ [])) (append_assoc v.bytes a b) (append-nil (v.entries ++ e))
+
+pub stored-for : (w u : View) (o g : List ℕ) (ds es : List DraftField) (fs F : List StoredField) → ds ≡ es → StoredAll w o g ds fs u F → StoredAll w o g es fs u F
+stored-for w u o g ds es fs F e h = subst (λ l. StoredAll w o g l fs u F) e h
+
+-- after the names and lists: the draft is as it was
+module _ (t : Tables) (n : NewNode) (k : ℕ) (ds : List DraftField) (dr : ShownDraft t n ds) (w : View) (x : Placed) (px : PlacedAs (view_in t) k n x w) where
+  kept : (map (draft_field w (word w.bytes x.owner) (word w.bytes x.given)) ds ≡ fields_of (view_in t).functions (tree_for t n))
+      × (every (draft_in w (word w.bytes x.owner) (word w.bytes x.given)) ds ≡ true)
+      × (draft_bytes w ds ≡ sum_by (rendered_bytes (view_in t).functions) (shown_expressions (tree_for t n)))
+  kept =
+      let g = drafts-grown (view_in t) w (own_text n) (own_entries n) (lent_owner n) (lent_given n) ds px.view dr.inside in
+      (ap₂ (λ o l. map (draft_field w o l) ds) px.owner px.given ∙ g.0 ∙ dr.fields, ap₂ (λ o l. every (draft_in w o l) ds) px.owner px.given ∙ g.1, g.2 ∙ dr.bytes)
+
+  pub draft-kept : every (draft_in w (word w.bytes x.owner) (word w.bytes x.given)) ds ≡ true
+  draft-kept = kept.1
+
+  pub draft-long : length ds ≡ length (fields_of (view_in t).functions (tree_for t n))
+  draft-long = sym (length-map ds (draft_field (view_in t) (lent_owner n) (lent_given n))) ∙ ap length dr.fields
+
+  pub bytes_left : fits (model_of t).used (outlay_for t n) ≡ true → length w.bytes + draft_bytes w ds ≤ 16384
+  bytes_left h =
+      omega (arith, (fits-parts (model_of t).used (outlay_for t n) h).3, kept.2, ap (λ y. length y.bytes) px.view, length-append (view_in t).bytes (own_text n), own-bytes n)
+
+  module _ (ke : k ≡ plan_count t) (u : View) (F : List StoredField)
+      (st : StoredAll w (word w.bytes x.owner) (word w.bytes x.given) ds (contents t.fields) u F)
+      (lim : limited (view_in t).functions (tree_for t n) ≡ true) (named : well_named n ≡ true) (number : PlanId) (ne : number.0 ≡ k) (first count size : ℕ) (fe : first ≡ length (contents t.fields)) (ce : count ≡ length ds) (se : size ≡ plan_size_of (tree_for t n))
+      (R : List PlanRecord) (Re : R ≡ contents t.plans ++ record { node = x.node; fields = record { first = first; count = count }; size = size; origin = number } ∷ []) where
+    abbrev new : PlanRecord
+    new = record { node = x.node; fields = record { first = first; count = count }; size = size; origin = number }
+
+    abbrev bs : List ℕ
+    bs = own_text n ++ st.bytes
+
+    seen : u ≡ grown (view_in t) [] bs (own_entries n)
+    seen = grown-then (view_in t) w u (own_text n) st.bytes (own_entries n) px.view st.view
+
+    before : PlanFacts u F (contents t.plans)
+    before =
+        let f = facts-grow (view_in t) [] bs (own_entries n) (contents t.fields) st.new (contents t.plans) (ap (λ y. every (stored_in y.bytes) st.new) (sym seen) ∙ st.inside) (facts-in t) in
+        subst (λ fs. PlanFacts u fs (contents t.plans)) (sym st.grew) (subst (λ y. PlanFacts y (contents t.fields ++ st.new) (contents t.plans)) (sym seen) f)
+
+    nodes : plan_nodes u F (contents t.plans) ≡ nodes_of t
+    nodes =
+        ap₂ (λ y fs. plan_nodes y fs (contents t.plans)) seen st.grew ∙ (plans-grow (view_in t) [] bs (own_entries n) (contents t.fields) st.new t.stored (contents t.plans) t.sound).1
+
+    new-long : length st.new ≡ length ds
+    new-long = sym (length-map st.new (stored_field u.bytes)) ∙ ap length st.fields ∙ length-map ds (draft_field w (word w.bytes x.owner) (word w.bytes x.given))
+
+    has-fields : fields_in u.bytes F new.fields ≡ fields_of (view_in t).functions (tree_for t n)
+    has-fields =
+        ap (λ c. map (stored_field u.bytes) (part F first c)) (ce ∙ sym new-long) ∙ ap (map (stored_field u.bytes)) (part-added (contents t.fields) st.new F first st.grew fe) ∙ st.fields ∙ kept.0
+
+    has-tree : (build_plan u F (plan_nodes u F (contents t.plans)) new).tree ≡ tree_for t n
+    has-tree =
+        let fs = fields_of (view_in t).functions (tree_for t n) in
+        ap₂ (λ l ns. build_plan_node u l (node_trees ns) x.node) has-fields nodes
+        ∙ ap (λ y. build_plan_node y fs (trees_in t) x.node) st.view ∙ (node-grow w [] st.bytes [] k x.node px.inside).1 fs (trees_in t)
+        ∙ px.tree fs (trees_in t) (ap (λ j. fields_of (view_in t).functions (tree_over (view_in t) j (trees_in t) n)) (sym ke)) ∙ ap (λ j. tree_over (view_in t) j (trees_in t) n) ke
+
+    is-inside : inside_plan u F (length (contents t.plans)) new ≡ true
+    is-inside =
+        let l = and_parts (leb (length (fields_of (view_in t).functions (tree_for t n))) 64 && leb (plan_size_of (tree_for t n)) 64) (every small_tree (expressions_of (tree_for t n)) && every (short_name (view_in t).functions) (shown_expressions (tree_for t n))) lim in
+        let m = and_parts (leb (length (fields_of (view_in t).functions (tree_for t n))) 64) (leb (plan_size_of (tree_for t n)) 64) l.0 in
+        let kl : k ≡ length (contents t.plans) = ke ∙ counted t in
+        and_from _ _ (and_from _ _ (ap₂ (λ y j. inside_node y j x.node) st.view (sym kl) ∙ (node-grow w [] st.bytes [] k x.node px.inside).0) (ap (λ y. accepted_node y.bytes x.node) st.view ∙ accepted-grow w [] st.bytes [] k x.node px.inside ∙ px.accepted named))
+        (and_from _ _ (and_from _ _ (le-leb (first + count) (length F) (omega (arith, ap length st.grew, length-append (contents t.fields) st.new, new-long, fe, ce))) (le-leb count 64 (omega (arith, leb-true _ _ m.0, draft-long, ce))))
+        (and_from _ _ (le-leb number.0 (length (contents t.plans)) (omega (arith, kl, ne))) (le-leb size 64 (omega (arith, leb-true _ _ m.1, se)))))
+
+    pub added-facts : PlanFacts u F R
+    added-facts =
+        facts-push u F (contents t.plans) R new Re before is-inside (has-fields ∙ ap₂ fields_of (sym (ap (λ y. y.functions) seen)) (sym has-tree)) (se ∙ ap plan_size_of (sym has-tree))
+
+    all-nodes : plan_nodes u F R ≡ nodes_of t ++ record { tree = tree_for t n; origin = plan_count t } ∷ []
+    all-nodes =
+        nodes-push u F (contents t.plans) R new Re before
+        ∙ ap₂ (λ ns m. ns ++ m ∷ []) nodes (ap₂ (λ a b. record { tree = a; origin = b }) has-tree (ne ∙ ke))
+
+    all-inputs : inputs_from u.entries R ≡ (model_of t).inputs ++ inputs_for n ∷ []
+    all-inputs =
+        ap (inputs_from u.entries) Re ∙ map_push (λ r. node_inputs u.entries r.node) (contents t.plans) new
+        ∙ ap₂ (λ ns m. ns ++ m ∷ []) (ap (λ y. inputs_from y.entries (contents t.plans)) seen ∙ all-inputs-grow (view_in t) [] bs (own_entries n) (contents t.fields) st.new t.stored 0 (contents t.plans) t.sound)
+        (ap (λ y. node_inputs y.entries x.node) st.view ∙ inputs-grow w [] st.bytes [] k x.node px.inside ∙ px.inputs)
+
+    pub added : NodeStored t n number.0 (model_from u F R)
+    added =
+        record {
+          number = ne ∙ ke;
+          functions = ap (λ y. y.functions) seen;
+          exprs = ap (λ y. y.trees) seen ∙ append-nil (view_in t).trees;
+          plans = all-nodes;
+          inputs = all-inputs;
+          bytes = bs;
+          text = ap (λ y. y.bytes) seen;
+          used = space-same _ _ _ _ _ _ _ _ _ _
+              (ap (λ y. length y.trees) seen ∙ ap length (append-nil (view_in t).trees) ∙ plain (length (view_in t).trees))
+              (ap length all-nodes ∙ length_push (nodes_of t) _)
+              (ap (λ y. length y.entries) seen ∙ length-append (view_in t).entries (own_entries n) ∙ ap (λ j. length (view_in t).entries + j) (own-entries n))
+              (ap length st.grew ∙ length-append (contents t.fields) st.new ∙ ap (λ j. length (contents t.fields) + j) (new-long ∙ draft-long))
+              (ap (λ y. length y.bytes) seen ∙ length-append (view_in t).bytes bs ∙ ap (λ j. length (view_in t).bytes + j) (length-append (own_text n) st.bytes ∙ ap₂ (λ a b. a + b) (own-bytes n) (st.used ∙ kept.2)));
+        }
+      where
+        plain : (m : ℕ) → m ≡ m + 0
+        plain m = omega arith

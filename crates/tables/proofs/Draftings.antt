@@ -1,0 +1,197 @@
+-- Drafts of a new node's fields, for each kind of node.
+use Rattle.std.proofs.Common.{◌≡◌, ℕ, ◌+◌, ◌*◌, ◌<◌, ◌≤◌, Bool, true, false, cond, eqb, List, [], ◌∷◌, ◌++◌, map, length, get_or, sum_by, sym, refl, ap, ◌∙◌, subst, ap₂, arith}
+use Rattle.std.proofs.lemmas.List.{map-append, append_assoc, length-map}
+use Rattle.std.proofs.lemmas.List.Sums.{sum_by-append}
+use Rattle.std.proofs.lemmas.Bool.{and_parts, and_from, ltb-true}
+use Rattle.plan.specs.Names.{Name, good_name}
+use Rattle.plan.specs.Terms.{Field, Expr}
+use Rattle.plan.specs.Functions.{Functions}
+use Rattle.plan.specs.Rendering.{field_of}
+use Rattle.plan.specs.Plans.{Plan, fields_of, qualified_by, without_qualifier, column_of, shown, shows_left, shows_right, kept_if}
+use Rattle.plan.specs.Fields.{every}
+use Rattle.plan.specs.Questions.{shown_expressions, joint_fields}
+use Rattle.plan.specs.Model.{plan_in, plans_in}
+use Rattle.plan.specs.Calls.{below, all_below, first_part, parts, union_of, rendered_bytes}
+use Rattle.plan.specs.declared.code.JoinKind.{JoinKind}
+use Rattle.terms.specs.Spans.{stored_field, stored_in}
+use Rattle.terms.specs.Views.{View}
+use Rattle.terms.specs.declared.node.PlanId.{PlanId}
+use Rattle.terms.specs.declared.node.StoredField.{StoredField}
+use Rattle.terms.proofs.Bounds.{name-short}
+use Rattle.terms.proofs.Frames.{every_append}
+use Rattle.names.specs.Pieces.{piece_of, piece_in}
+use Rattle.names.specs.declared.parts.Piece.{Piece}
+use Rattle.draft.specs.Drafts.{as_stored, as_owned, as_bare, draft_field, draft_in, draft_bytes, field_bytes, FieldsFor}
+use Rattle.draft.specs.declared.word.DraftField.{DraftField}
+use Rattle.draft.proofs.Fields.{stored-fields, owned-fields, bare-fields, stored-inside, owned_inside, bare-inside, stored_bytes, owned-bytes, bare-bytes}
+use Rattle.tables.specs.Holding.{view_in}
+use Rattle.tables.specs.Making.{tree_for, input_numbers}
+use Rattle.tables.specs.Placing.{lent_owner, lent_given}
+use Rattle.tables.specs.Drafting.{DraftOf, as_piece}
+use Rattle.tables.specs.declared.node.NewNode.{NewNode}
+use Rattle.tables.specs.declared.tables.Tables.{Tables}
+
+-- a draft of what a new node shows, and of what has to be lawful together
+abbrev pub ShownDraft : Tables → NewNode → List DraftField → Type 0
+ShownDraft t n ds =
+    DraftOf (view_in t) (lent_owner n) (lent_given n) (fields_of (view_in t).functions (tree_for t n)) (sum_by (rendered_bytes (view_in t).functions) (shown_expressions (tree_for t n))) ds
+
+pub for-new : (t : Tables) (n m : NewNode) (ds : List DraftField) → n ≡ m → ShownDraft t m ds → ShownDraft t n ds
+for-new t n m ds e h = subst (λ x. ShownDraft t x ds) (sym e) h
+
+module _ (v : View) (o g : List ℕ) (Fs : List Field) (fs : List StoredField) (is : map (stored_field v.bytes) fs ≡ Fs) (all : every (stored_in v.bytes) fs ≡ true) (before after : List DraftField) (e : before ≡ []) where
+  pub stored-draft : after ≡ before ++ map as_stored fs → DraftOf v o g Fs 0 after
+  stored-draft h =
+      let a : after ≡ map as_stored fs = h ∙ ap (λ l. l ++ map as_stored fs) e in
+      record {
+        fields = ap (map (draft_field v o g)) a ∙ stored-fields v o g fs ∙ is;
+        inside = ap (every (draft_in v o g)) a ∙ stored-inside v o g fs all;
+        bytes = ap (draft_bytes v) a ∙ stored_bytes v fs;
+      }
+
+  pub owned-draft : after ≡ before ++ map as_owned fs → DraftOf v o g (map (qualified_by o) Fs) 0 after
+  owned-draft h =
+      let a : after ≡ map as_owned fs = h ∙ ap (λ l. l ++ map as_owned fs) e in
+      record {
+        fields = ap (map (draft_field v o g)) a ∙ owned-fields v o g fs ∙ ap (map (qualified_by o)) is;
+        inside = ap (every (draft_in v o g)) a ∙ owned_inside v o g fs all;
+        bytes = ap (draft_bytes v) a ∙ owned-bytes v fs;
+      }
+
+  pub bare-draft : after ≡ before ++ map as_bare fs → DraftOf v o g (map without_qualifier Fs) 0 after
+  bare-draft h =
+      let a : after ≡ map as_bare fs = h ∙ ap (λ l. l ++ map as_bare fs) e in
+      record {
+        fields = ap (map (draft_field v o g)) a ∙ bare-fields v o g fs ∙ ap (map without_qualifier) is;
+        inside = ap (every (draft_in v o g)) a ∙ bare-inside v o g fs all;
+        bytes = ap (draft_bytes v) a ∙ bare-bytes v fs;
+      }
+
+-- one draft behind another
+pub both-drafts : (v : View) (o g : List ℕ) (F G : List Field) (m n : ℕ) (a b c : List DraftField) → DraftOf v o g F m a → DraftOf v o g G n b → c ≡ a ++ b → DraftOf v o g (F ++ G) (m + n) c
+both-drafts v o g F G m n a b c p q e = record {
+  fields = ap (map (draft_field v o g)) e ∙ map-append (draft_field v o g) a b ∙ ap₂ (λ x y. x ++ y) p.fields q.fields;
+  inside = ap (every (draft_in v o g)) e ∙ every_append (draft_in v o g) a b p.inside q.inside;
+  bytes = ap (draft_bytes v) e ∙ sum_by-append (field_bytes v) a b ∙ ap₂ (λ x y. x + y) p.bytes q.bytes;
+}
+
+-- the two sides of a join
+pub sides-draft : (v : View) (o g : List ℕ) (F G : List Field) (fs gs : List StoredField) (before mid after : List DraftField) → map (stored_field v.bytes) fs ≡ F → every (stored_in v.bytes) fs ≡ true
+    → map (stored_field v.bytes) gs ≡ G → every (stored_in v.bytes) gs ≡ true → before ≡ [] → mid ≡ before ++ map as_stored fs → after ≡ mid ++ map as_stored gs → DraftOf v o g (F ++ G) 0 after
+sides-draft v o g F G fs gs before mid after p q r s e h k =
+    both-drafts v o g F G 0 0 mid (map as_stored gs) after (stored-draft v o g F fs p q before mid e h) (stored-draft v o g G gs r s [] (map as_stored gs) refl refl) k
+
+pub kind-draft : (v : View) (o g : List ℕ) (k : JoinKind) (F G H : List Field) (ds : List DraftField) → shown k F G ≡ H → DraftOf v o g H 0 ds → DraftOf v o g (shown k F G) 0 ds
+kind-draft v o g k F G H ds e h = subst (λ x. DraftOf v o g x 0 ds) (sym e) h
+
+pub shown-both : (k : JoinKind) (F G : List Field) → true ≡ shows_left k → true ≡ shows_right k → shown k F G ≡ F ++ G
+shown-both k F G p q = ap₂ (λ x y. kept_if x F ++ kept_if y G) (sym p) (sym q)
+
+pub shown-left : (k : JoinKind) (F G : List Field) → true ≡ shows_left k → false ≡ shows_right k → shown k F G ≡ F
+shown-left k F G p q = ap₂ (λ x y. kept_if x F ++ kept_if y G) (sym p) (sym q) ∙ Rattle.std.proofs.lemmas.List.append-nil F
+
+pub shown-right : (k : JoinKind) (F G : List Field) → false ≡ shows_left k → true ≡ shows_right k → shown k F G ≡ G
+shown-right k F G p q = ap₂ (λ x y. kept_if x F ++ kept_if y G) (sym p) (sym q)
+
+-- fields of expressions
+module _ (v : View) (o g : List ℕ) (es : List Expr) (before after : List DraftField) (h : FieldsFor v es before after) where
+  pub new-draft : DraftOf v o g (map (field_of v.functions) es) (sum_by (rendered_bytes v.functions) es) h.new
+  new-draft = record { fields = h.fields o g; inside = h.inside o g; bytes = h.bytes }
+
+  pub exprs-draft : before ≡ [] → DraftOf v o g (map (field_of v.functions) es) (sum_by (rendered_bytes v.functions) es) after
+  exprs-draft e =
+      subst (λ ds. DraftOf v o g (map (field_of v.functions) es) (sum_by (rendered_bytes v.functions) es) ds) (sym (h.grew ∙ ap (λ l. l ++ h.new) e)) new-draft
+
+  pub exprs-length : before ≡ [] → length after ≡ length es
+  exprs-length e =
+      sym (length-map after (draft_field v o g)) ∙ ap length (exprs-draft e).fields ∙ length-map es (field_of v.functions)
+
+pub lists-draft : (v : View) (o g : List ℕ) (es us : List Expr) (before mid after : List DraftField) → before ≡ [] → FieldsFor v es before mid → FieldsFor v us mid after
+    → DraftOf v o g (map (field_of v.functions) (es ++ us)) (sum_by (rendered_bytes v.functions) (es ++ us)) after
+lists-draft v o g es us before mid after e p q =
+    let b = both-drafts v o g (map (field_of v.functions) es) (map (field_of v.functions) us) _ _ mid q.new after (exprs-draft v o g es before mid p e) (new-draft v o g us mid after q) q.grew in
+    record {
+      fields = b.fields ∙ sym (map-append (field_of v.functions) es us);
+      inside = b.inside;
+      bytes = b.bytes ∙ sym (sum_by-append (rendered_bytes v.functions) es us);
+    }
+
+-- the names of a Table
+module _ (v : View) (o g : List ℕ) where
+  piece-fields : (ps : List Piece) → map (draft_field v o g) (map as_piece ps) ≡ map (column_of o) (map (piece_of g) ps)
+  piece-fields [] = refl
+  piece-fields (p ∷ ps) = ap (λ l. column_of o (piece_of g p) ∷ l) (piece-fields ps)
+
+  piece_inside : (ps : List Piece) → every (piece_in g) ps ≡ true → every (draft_in v o g) (map as_piece ps) ≡ true
+  piece_inside [] h = refl
+  piece_inside (p ∷ ps) h =
+      let q = and_parts (piece_in g p) (every (piece_in g) ps) h in
+      and_from _ _ (and_from _ _ q.0 refl) (piece_inside ps q.1)
+
+  piece_bytes : (ps : List Piece) → draft_bytes v (map as_piece ps) ≡ 0
+  piece_bytes [] = refl
+  piece_bytes (p ∷ ps) = omega (arith, Rattle.std.proofs.lemmas.List.Sums.sum_by-cons (field_bytes v) (as_piece p) (map as_piece ps), piece_bytes ps)
+
+  pub table-draft : (ps : List Piece) (before after : List DraftField) → before ≡ [] → after ≡ before ++ map as_piece ps → map (piece_of g) ps ≡ parts g → every (piece_in g) ps ≡ true → DraftOf v o g (map (column_of o) (parts g)) 0 after
+  table-draft ps before after e h p i =
+      let a : after ≡ map as_piece ps = h ∙ ap (λ l. l ++ map as_piece ps) e in
+      record {
+        fields = ap (map (draft_field v o g)) a ∙ piece-fields ps ∙ ap (map (column_of o)) p;
+        inside = ap (every (draft_in v o g)) a ∙ piece_inside ps i;
+        bytes = ap (draft_bytes v) a ∙ piece_bytes ps;
+      }
+
+-- a text with few and short parts is short
+abbrev room : List Name → ℕ
+room [] = 0
+room (n ∷ ns) = length n + 1 + room ns
+
+first-room : (c : ℕ) (ns : List Name) → 1 ≤ length ns → room (first_part c ns) ≡ room ns + 1
+first-room c [] h = absurd (omega arith)
+first-room c (n ∷ ns) h = omega arith
+
+first_some : (c : ℕ) (ns : List Name) → 1 ≤ length ns → 1 ≤ length (first_part c ns)
+first_some c [] h = absurd (omega arith)
+first_some c (n ∷ ns) h = omega arith
+
+some-step : (b : Bool) (c : ℕ) (ns : List Name) → 1 ≤ length ns → 1 ≤ length (cond b ([] ∷ ns) (first_part c ns))
+some-step true c ns h = omega arith
+some-step false c ns h = first_some c ns h
+
+some-part : (cs : List ℕ) → 1 ≤ length (parts cs)
+some-part [] = omega arith
+some-part (c ∷ cs) = some-step (eqb c 44) c (parts cs) (some-part cs)
+
+room-step : (b : Bool) (c : ℕ) (ns : List Name) → 1 ≤ length ns → room (cond b ([] ∷ ns) (first_part c ns)) ≡ room ns + 1
+room-step true c ns h = omega arith
+room-step false c ns h = first-room c ns h
+
+parts-room : (cs : List ℕ) → length cs + 1 ≡ room (parts cs)
+parts-room [] = refl
+parts-room (c ∷ cs) = omega (arith, room-step (eqb c 44) c (parts cs) (some-part cs), parts-room cs)
+
+short-room : (ns : List Name) → every good_name ns ≡ true → room ns ≤ 256 * length ns
+short-room [] h = omega arith
+short-room (n ∷ ns) h =
+    let p = and_parts (good_name n) (every good_name ns) h in
+    omega (arith, name-short n p.0, short-room ns p.1)
+
+pub names-short : (cs : List ℕ) → every good_name (parts cs) ≡ true → length (parts cs) ≤ 64 → length cs ≤ 16384
+names-short cs h k = omega (arith, parts-room cs, short-room (parts cs) h)
+
+-- the first input of a Union
+pub first_below : (k : ℕ) (is : List PlanId) (d : PlanId) → 1 ≤ length is → all_below k (input_numbers is) ≡ true → (get_or is 0 d).0 < k
+first_below k [] d l h = absurd (omega arith)
+first_below k (i ∷ is) d l h = ltb-true i.0 k (and_parts (below k i.0) (all_below k (input_numbers is)) h).0
+
+pub union-fields : (fs : Functions) (ts : List Plan) (is : List PlanId) (d : PlanId) → 1 ≤ length is → fields_of fs (union_of (plans_in ts (input_numbers is))) ≡ map without_qualifier (fields_of fs (plan_in ts (get_or is 0 d).0))
+union-fields fs ts [] d l = absurd (omega arith)
+union-fields fs ts (i ∷ is) d l = refl
+
+pub union-shown : (ts : List Plan) → shown_expressions (union_of ts) ≡ []
+union-shown [] = refl
+union-shown (t ∷ ts) = refl
+
+pub union-joint : (fs : Functions) (ts : List Plan) → joint_fields fs (union_of ts) ≡ fields_of fs (union_of ts)
+union-joint fs [] = refl
+union-joint fs (t ∷ ts) = refl

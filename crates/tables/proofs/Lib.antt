@@ -1,0 +1,17 @@
+pub mod PlanFrames
+pub mod PlanFacts
+pub mod Held
+pub mod Inputs
+pub mod Placings
+pub mod Answers
+pub mod Draftings
+pub mod NodeFacts
+pub mod Small
+pub mod Commas
+pub mod Fitting
+pub mod Adding
+pub mod Questions
+pub mod Remaking
+pub mod Origins
+pub mod Swaps
+pub mod Traces

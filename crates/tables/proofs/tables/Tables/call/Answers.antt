@@ -1,0 +1,18 @@
+use Rattle.std.proofs.Common.{refl}
+use Rattle.table.specs.Contents.{contents}
+use Rattle.plan.specs.Calls.Call.{make_call}
+use Rattle.terms.specs.Views.{view_of, numbers_of}
+use Rattle.tables.specs.Holding.{view_in}
+use Rattle.tables.proofs.Answers.{expr-answers, facts-answered}
+use Rattle.tables.proofs.Held.{facts-in}
+use Rattle.tables.proofs.tables.Tables.call.Goals as goal
+
+pub invariant_of-self : goal.invariant_of-self
+invariant_of-self c =
+    let t = c.args.self.now in
+    let k = facts-answered (view_in t) (view_of c.call.new.self) (make_call c.args.function (numbers_of c.args.arguments.now)) c.call.result (contents t.fields) (contents t.plans) c.call.ensures (facts-in t) in
+    record { stored = k.are-stored; sound = k.are-sound; fielded = k.are-fielded; sizes = k.have-sizes }
+
+pub returns : goal.returns
+returns c =
+    expr-answers c.args.self.now (view_of c.call.new.self) (make_call c.args.function (numbers_of c.args.arguments.now)) (record { asks = refl; makes = refl; costs = refl; no-plan = refl; no-inputs = refl; number = refl; expressions = refl; plans = refl; fields = refl }) c.call.result c.call.ensures

@@ -1,0 +1,23 @@
+use Rattle.std.proofs.Common.{[], ◌++◌, map, length, ap, ◌∙◌, arith}
+use Rattle.std.proofs.lemmas.List.{length-map}
+use Rattle.plan.specs.Fields.{every, lawful}
+use Rattle.draft.specs.Drafts.{as_stored, draft_field, draft_in}
+use Rattle.tables.specs.Holding.{view_in}
+use Rattle.tables.proofs.Draftings.{sides-draft}
+use Rattle.tables.proofs.tables.Tables.is_lawful_join.Goals as goal
+
+pub push_stored-requires-2 : goal.push_stored-requires-2
+push_stored-requires-2 c =
+    omega (arith, ap length (c.push_stored.ensures ∙ ap (λ l. l ++ map as_stored c.fields_of.result.now) c.new-draft.ensures), length-map c.fields_of.result.now as_stored, c.fields_of.ensures.few, c.fields_of-2.ensures.few)
+
+pub is_lawful-requires : goal.is_lawful-requires
+is_lawful-requires c =
+    let v = view_in c.args.self.now in
+    let d = sides-draft v [] [] _ _ _ _ _ _ _ c.fields_of.ensures.value c.fields_of.ensures.stored c.fields_of-2.ensures.value c.fields_of-2.ensures.stored c.new-draft.ensures c.push_stored.ensures c.push_stored-2.ensures in
+    record { inside = ap (every (draft_in v [] [])) c.as_slice.ensures ∙ d.inside; owner = omega arith; given = omega arith }
+
+pub returns : goal.returns
+returns c =
+    let v = view_in c.args.self.now in
+    let d = sides-draft v [] [] _ _ _ _ _ _ _ c.fields_of.ensures.value c.fields_of.ensures.stored c.fields_of-2.ensures.value c.fields_of-2.ensures.stored c.new-draft.ensures c.push_stored.ensures c.push_stored-2.ensures in
+    c.is_lawful.ensures ∙ ap (λ l. lawful (map (draft_field v [] []) l)) c.as_slice.ensures ∙ ap lawful d.fields

@@ -1,0 +1,121 @@
+//! What a reader of a book may ask; whatever is given, there is an answer or a refusal.
+ghost use Rattle.std.specs.Prelude.{◌≡◌, ◌+◌, ◌<◌, true, ◌&&◌, [], ◌∷◌, map, length, nat_le, nat_lt, slice_index, slice_index_or};
+ghost use Rattle.tables.specs.Holding.{fields_at, model_of, plan_count, view_in};
+ghost use Rattle.tables.specs.Looking.{Looked, entry_count, field_in};
+ghost use Rattle.tables.specs.Reading.{ReadsAs};
+ghost use Rattle.plan.specs.Calls.{below};
+ghost use Rattle.plan.specs.Fields.{every};
+ghost use Rattle.plan.specs.Functions.{function_at};
+ghost use Rattle.plan.specs.Model.{expr_in};
+ghost use Rattle.plan.specs.declared.fault.Question.TheVariants.{Bounded, Present};
+ghost use Rattle.table.specs.Contents.{part};
+ghost use Rattle.terms.specs.Build.{numbers_in};
+ghost use Rattle.terms.specs.Spans.{function_in, span_in, stored_field, stored_in, word};
+ghost use Rattle.terms.specs.Views.{tree_for};
+
+use super::Tables;
+use crate::node::{PlanRecord, Run};
+use plan::fault::{Fault, Question, ask};
+use terms::node::{Declaration, Entry, ExprId, ExprNode, PlanId, Span, StoredField};
+use terms::terms::Terms;
+
+impl Tables {
+    /// How many expressions there are.
+    pub fn expr_count(&self) -> usize
+        ensures { result ≡ length (model_of self.now).exprs }
+    {
+        self.terms.len()
+    }
+
+    /// A node: its kind, inputs and lists, the run of its fields, its size and its origin.
+    pub fn plan(&self, p: PlanId) -> Result<PlanRecord, Fault>
+        ensures { Looked ((Present, below (plan_count self.now) p.0) ∷ []) (ReadsAs self.now p.0) result }
+    {
+        ask(self.has(p), Question::Present)?;
+        Ok(self.record_of(p))
+    }
+
+    /// An expression: what it is and its parts.
+    pub fn expr(&self, e: ExprId) -> Result<ExprNode, Fault>
+        ensures { Looked ((Present, below (length (model_of self.now).exprs) e.0) ∷ []) (λ n. expr_in (model_of self.now).exprs e.0 ≡ tree_for self.now.terms n) result }
+    {
+        ask(self.terms.has(e), Question::Present)?;
+        Ok(self.terms.node(e))
+    }
+
+    fn has_field(&self, p: PlanId, i: u32) -> bool
+        requires { p.0 < plan_count self.now }
+        ensures { result ≡ nat_lt i (length (fields_at self.now p.0)) }
+    {
+        (i as usize) < self.fields_of(p).len()
+    }
+
+    /// The field at a place of a node.
+    pub fn field(&self, p: PlanId, i: u32) -> Result<StoredField, Fault>
+        ensures { Looked ((Present, below (plan_count self.now) p.0) ∷ (Bounded, nat_lt i (length (fields_at self.now p.0))) ∷ []) (λ f. stored_field (view_in self.now).bytes f ≡ field_in self.now p.0 i) result }
+    {
+        ask(self.has(p), Question::Present)?;
+        ask(self.has_field(p, i), Question::Bounded)?;
+        Ok(self.fields_of(p)[i as usize])
+    }
+
+    /// The declaration of a number, if there is one.
+    pub fn function(&self, number: u8) -> Option<Declaration>
+        ensures { function_in (model_of self.now).text result ≡ function_at (model_of self.now).functions number }
+    {
+        self.terms.function(number)
+    }
+
+    fn has_span(&self, span: Span) -> bool
+        ensures { result ≡ span_in (model_of self.now).text span }
+    {
+        let len = 16384 - self.terms.text_room();
+        (span.start as usize) + (span.len as usize) <= len
+    }
+
+    /// The part of the text that a span names.
+    pub fn word(&self, span: Span) -> Result<&[u8], Fault>
+        ensures { Looked ((Bounded, span_in (model_of self.now).text span) ∷ []) (λ w. w.now ≡ word (model_of self.now).text span) result }
+    {
+        ask(self.has_span(span), Question::Bounded)?;
+        Ok(self.terms.word(span))
+    }
+
+    fn has_run(&self, run: Run, i: u32) -> bool
+        ensures { result ≡ (nat_le (run.first + run.count) (entry_count self.now) && nat_lt i run.count) }
+    {
+        let len = 2048 - self.terms.list_room();
+        (run.first as usize) + (run.count as usize) <= len && i < run.count
+    }
+
+    /// The expression, or the node, at a place of a list.
+    pub fn listed(&self, run: Run, i: u32) -> Result<ExprId, Fault>
+        ensures { Looked ((Bounded, nat_le (run.first + run.count) (entry_count self.now) && nat_lt i run.count) ∷ []) (λ e. e.0 ≡ slice_index (numbers_in (view_in self.now).entries run.first run.count) i) result }
+    {
+        ask(self.has_run(run, i), Question::Bounded)?;
+        Ok(self.terms.listed(run.first, run.count, i))
+    }
+
+    /// The entry at a place of a list: an expression, a Sort key with its direction, or a node.
+    pub fn entry(&self, run: Run, i: u32) -> Result<Entry, Fault>
+        ensures { Looked ((Bounded, nat_le (run.first + run.count) (entry_count self.now) && nat_lt i run.count) ∷ []) (λ e. (d : Entry) → e ≡ slice_index_or (part (view_in self.now).entries run.first run.count) i d) result }
+    {
+        ask(self.has_run(run, i), Question::Bounded)?;
+        Ok(self.terms.entry(run.first, run.count, i))
+    }
+
+    /// The expressions, with the functions and the text.
+    pub fn terms(&self) -> &Terms
+        ensures { result.now ≡ self.now.terms }
+    {
+        &self.terms
+    }
+
+    /// The fields of a node.
+    pub fn node_fields(&self, p: PlanId) -> Result<&[StoredField], Fault>
+        ensures { Looked ((Present, below (plan_count self.now) p.0) ∷ []) (λ fs. (map (stored_field (view_in self.now).bytes) fs.now ≡ fields_at self.now p.0) × (every (stored_in (view_in self.now).bytes) fs.now ≡ true)) result }
+    {
+        ask(self.has(p), Question::Present)?;
+        Ok(self.fields_of(p))
+    }
+}

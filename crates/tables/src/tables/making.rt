@@ -1,0 +1,64 @@
+//! How a node is made: the only way into the plan table.
+ghost use Rattle.std.specs.Prelude.{◌≡◌, ◌≤◌, true};
+ghost use Rattle.tables.specs.Holding.{model_of};
+ghost use Rattle.tables.specs.Making.{NodeMade, NodeStored, bounded, outlay_for, present, tree_for, well_named};
+ghost use Rattle.tables.specs.Holding.{view_in};
+ghost use Rattle.plan.specs.Model.{fits};
+ghost use Rattle.plan.specs.Questions.{limited};
+
+use super::Tables;
+use super::lawful::blank;
+use crate::node::{NewNode, PlanRecord, Run};
+use crate::placing::place;
+use draft::storing::store;
+use plan::fault::{Fault, Question, ask};
+use table::table::Table;
+use terms::node::PlanId;
+
+impl Tables {
+    /// Stores a node that has passed its questions.
+    fn add(&mut self, node: NewNode<'_>) -> PlanId
+        requires present { present self.old node ≡ true }
+        requires bounded { bounded node ≡ true }
+        requires named { well_named node ≡ true }
+        requires limited { limited (view_in self.old).functions (tree_for self.old node) ≡ true }
+        requires room { fits (model_of self.old).used (outlay_for self.old node) ≡ true }
+        ensures { NodeStored self.old node.entry result.0 (model_of self.new) }
+    {
+        let number = PlanId(self.plans.len() as u32);
+        let size = self.tree_size(node);
+        let mut draft = Table::new(blank());
+        self.draft_shown(node, &mut draft);
+        let placed = place(&mut self.terms, node, number);
+        let first = self.fields.len() as u32;
+        store(
+            &mut self.terms,
+            &mut self.fields,
+            placed.owner,
+            placed.given,
+            draft.as_slice(),
+        );
+        let count = draft.len() as u32;
+        self.plans.push(PlanRecord {
+            node: placed.node,
+            fields: Run { first, count },
+            size,
+            origin: number,
+        });
+        number
+    }
+
+    /// Asks the questions on references, fields, limits and space, and stores the node.
+    pub fn make(&mut self, node: NewNode<'_>) -> Result<PlanId, Fault>
+        requires present { present self.old node ≡ true }
+        requires bounded { bounded node ≡ true }
+        requires named { well_named node ≡ true }
+        ensures { NodeMade self.old node.entry result (model_of self.new) }
+    {
+        ask(self.is_resolved(node), Question::Resolved)?;
+        ask(self.is_lawful_node(node), Question::Lawful)?;
+        ask(self.is_limited(node), Question::Limited)?;
+        ask(self.has_room(node), Question::Space)?;
+        Ok(self.add(node))
+    }
+}

@@ -1,0 +1,36 @@
+//! The tables of a book that was just opened.
+ghost use Rattle.plan.specs.Model.{opened};
+ghost use Rattle.tables.specs.Holding.{model_of};
+ghost use Rattle.terms.specs.Lexicon.{functions_of, text_of};
+ghost use Rattle.std.specs.Prelude.{◌≡◌};
+
+use super::Tables;
+use crate::node::{PlanNode, PlanRecord, Run};
+use table::table::Table;
+use terms::lexicon::Lexicon;
+use terms::node::{PlanId, Qualifier, Span, StoredField};
+use terms::terms::Terms;
+
+impl Tables {
+    /// No expression and no node.
+    pub fn open(lexicon: Lexicon) -> Tables
+        ensures { model_of result ≡ opened (functions_of lexicon) (text_of lexicon) }
+    {
+        let span = Span { start: 0, len: 0 };
+        let run = Run { first: 0, count: 0 };
+        let filler = PlanRecord {
+            node: PlanNode::Union { inputs: run },
+            fields: run,
+            size: 1,
+            origin: PlanId(0),
+        };
+        Tables {
+            terms: Terms::open(lexicon),
+            fields: Table::new(StoredField {
+                qualifier: Qualifier::Unqualified,
+                name: span,
+            }),
+            plans: Table::new(filler),
+        }
+    }
+}

@@ -1,0 +1,100 @@
+//! What is asked of nodes.
+ghost use Rattle.std.specs.Prelude.{◌≡◌, ◌+◌, ◌<◌, ◌≤◌, true, map, length};
+ghost use Rattle.plan.specs.Model.{expr_in, exprs_in, origin_at};
+ghost use Rattle.tables.specs.Holding.{fields_at, model_of, plan_count, tree_in, trees_in, view_in};
+ghost use Rattle.tables.specs.Reading.{ReadsAs};
+ghost use Rattle.plan.specs.Calls.{all_below, below};
+ghost use Rattle.plan.specs.Fields.{any, every};
+ghost use Rattle.plan.specs.Functions.{is_total};
+ghost use Rattle.plan.specs.Plans.{plan_size_of};
+ghost use Rattle.terms.specs.Spans.{stored_field, stored_in};
+ghost use Rattle.terms.specs.Views.{numbers_of};
+
+use super::Tables;
+use crate::node::PlanRecord;
+use table::table::Table;
+use terms::node::{ExprId, PlanId, StoredField};
+use terms::terms::Terms;
+
+impl Tables {
+    /// How many nodes there are.
+    pub fn len(&self) -> usize
+        ensures value { result ≡ plan_count self.now }
+        ensures bound { result ≤ 128 }
+    {
+        self.plans.len()
+    }
+
+    /// Whether a node stands in the book.
+    pub fn has(&self, p: PlanId) -> bool
+        ensures { result ≡ below (plan_count self.now) p.0 }
+    {
+        (p.0 as usize) < self.len()
+    }
+
+    /// What the table holds of a node.
+    pub(super) fn record_of(&self, p: PlanId) -> PlanRecord
+        requires { p.0 < plan_count self.now }
+        ensures { ReadsAs self.now p.0 result }
+    {
+        self.plans.get(p.0 as usize)
+    }
+
+    /// The fields of a node.
+    pub fn fields_of(&self, p: PlanId) -> &[StoredField]
+        requires { p.0 < plan_count self.now }
+        ensures value { map (stored_field (view_in self.now).bytes) result.now ≡ fields_at self.now p.0 }
+        ensures stored { every (stored_in (view_in self.now).bytes) result.now ≡ true }
+        ensures few { length result.now ≤ 64 }
+    {
+        let run = self.record_of(p).fields;
+        self.fields.part(run.first as usize, run.count as usize)
+    }
+
+    /// How many nodes a node's tree has.
+    pub(super) fn size_of(&self, p: PlanId) -> u32
+        requires { p.0 < plan_count self.now }
+        ensures value { result ≡ plan_size_of (tree_in self.now p.0) }
+        ensures bound { result ≤ 64 }
+    {
+        self.record_of(p).size
+    }
+
+    /// The node that a node was made from; at first itself.
+    pub fn origin_of(&self, p: PlanId) -> PlanId
+        requires { p.0 < plan_count self.now }
+        ensures { result.0 ≡ origin_at (model_of self.now) p.0 }
+    {
+        self.record_of(p).origin
+    }
+
+    /// Whether an expression stands in the book.
+    pub fn holds(&self, e: ExprId) -> bool
+        ensures { result ≡ below (length (view_in self.now).trees) e.0 }
+    {
+        self.terms.has(e)
+    }
+
+    /// Whether some expressions stand in the book.
+    pub fn holds_all(&self, ids: &[ExprId]) -> bool
+        ensures { result ≡ all_below (length (view_in self.now).trees) (numbers_of ids.now) }
+    {
+        self.terms.has_all(ids)
+    }
+
+    /// Whether an expression is a total.
+    pub fn is_total(&self, e: ExprId) -> bool
+        requires { e.0 < length (view_in self.now).trees }
+        ensures { result ≡ is_total (view_in self.now).functions (expr_in (view_in self.now).trees e.0) }
+    {
+        self.terms.is_total(e)
+    }
+
+    /// Whether one of some expressions is a total.
+    pub fn any_total(&self, ids: &[ExprId]) -> bool
+        requires { all_below (length (view_in self.now).trees) (numbers_of ids.now) ≡ true }
+        ensures { result ≡ any (is_total (view_in self.now).functions) (exprs_in (view_in self.now).trees (numbers_of ids.now)) }
+    {
+        self.terms.any_total(ids)
+    }
+}

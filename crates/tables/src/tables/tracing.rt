@@ -1,0 +1,88 @@
+//! Where an alias was given.
+ghost use Rattle.std.specs.Prelude.{◌≡◌, ◌<◌, true, length};
+ghost use Rattle.plan.specs.Fields.{any};
+ghost use Rattle.plan.specs.Model.{expr_in, tree_at};
+ghost use Rattle.plan.specs.Tracing.{Traced, aliased, holds_alias, trace_asked};
+ghost use Rattle.tables.specs.Holding.{model_of, plan_count, view_in};
+ghost use Rattle.tables.specs.Looking.{Looked};
+ghost use Rattle.tables.specs.Stored.{list_in, run_exprs};
+ghost use Rattle.tables.specs.Tracing.{WalkedTo, found_plan};
+
+use super::Tables;
+use crate::node::{PlanNode, Run};
+use names::{good_name, same_bytes};
+use plan::fault::{Fault, Question, ask};
+use terms::node::{ExprId, ExprNode, PlanId};
+use terms::terms::Terms;
+
+impl Tables {
+    /// Whether an expression is an alias of this name.
+    fn is_aliased(&self, e: ExprId, name: &[u8]) -> bool
+        requires { e.0 < length (view_in self.now).trees }
+        ensures { result ≡ aliased name.now (expr_in (view_in self.now).trees e.0) }
+    {
+        match self.terms.node(e) {
+            ExprNode::Constant(_) => false,
+            ExprNode::Reference { .. } => false,
+            ExprNode::Alias { name: own, .. } => same_bytes(name, self.terms.word(own)),
+            ExprNode::Call { .. } => false,
+        }
+    }
+
+    /// Whether one of a list is.
+    fn any_aliased(&self, list: Run, name: &[u8]) -> bool
+        requires { list_in (view_in self.now) list ≡ true }
+        ensures { result ≡ any (aliased name.now) (run_exprs (view_in self.now) list) }
+    {
+        for i in 0..list.count {
+            if self.is_aliased(self.terms.listed(list.first, list.count, i), name) {
+                return true;
+            }
+        }
+        false
+    }
+
+    /// Whether a node is a Projection with an alias of this name in its list.
+    fn holds_alias(&self, p: PlanId, name: &[u8]) -> bool
+        requires { p.0 < plan_count self.now }
+        ensures { result ≡ holds_alias name.now (tree_at (model_of self.now) p.0) }
+    {
+        match self.record_of(p).node {
+            PlanNode::Table { .. } => false,
+            PlanNode::Projection { list, .. } => self.any_aliased(list, name),
+            PlanNode::Filter { .. } => false,
+            PlanNode::Sort { .. } => false,
+            PlanNode::Limit { .. } => false,
+            PlanNode::Aggregate { .. } => false,
+            PlanNode::Join { .. } => false,
+            PlanNode::SubqueryAlias { .. } => false,
+            PlanNode::Union { .. } => false,
+        }
+    }
+
+    /// The first node that does: a node before its inputs, and these from left to right.
+    fn trace_from(&self, p: PlanId, name: &[u8]) -> Option<PlanId>
+        requires { p.0 < plan_count self.now }
+        ensures { WalkedTo (model_of self.now) p.0 name.now result }
+    {
+        if self.holds_alias(p, name) {
+            return Some(p);
+        }
+        let count = self.input_count(p);
+        for k in 0..count {
+            if let Some(q) = self.trace_from(self.input_at(p, k), name) {
+                return Some(q);
+            }
+        }
+        None
+    }
+
+    /// The topmost Projection at or below a node whose list has an alias of this name, if there is one.
+    pub fn trace(&self, node: PlanId, name: &[u8]) -> Result<Option<PlanId>, Fault>
+        ensures { Looked (trace_asked (model_of self.now) node.0 name.now) (λ a. Traced (model_of self.now) node.0 name.now (found_plan a)) result }
+    {
+        ask(self.has(node), Question::Present)?;
+        ask(good_name(name), Question::Named)?;
+        Ok(self.trace_from(node, name))
+    }
+}
