@@ -1,9 +1,10 @@
 -- What the law says of a book is a proposition, so it may be had from the mere fact that some calls led there.
-use Rattle.std.proofs.Common.{◌≡◌, ℕ, Bool, true, false, T, ◌⊎◌, List, [], ◌∷◌, ◌++◌, ℤ, refl, ap, subst, inl, inr, arith}
+use Rattle.std.proofs.Common.{◌≡◌, ℕ, Bool, true, false, T, ◌⊎◌, List, [], ◌∷◌, ◌++◌, length, ℤ, refl, ap, subst, inl, inr, arith}
 use lib.Ieee.{Float}
-use Rattle.std.specs.List.{AllByRecursion}
+use Rattle.std.specs.List.{AllByRecursion as All}
 use Rattle.plan.specs.Functions.{Functions}
-use Rattle.plan.specs.Model.{Space}
+use Rattle.plan.specs.Calls.{Answer}
+use Rattle.plan.specs.Model.{Model, Space, opened as just_opened, space, tree_at}
 use Rattle.plan.specs.Plans.{Plan, Plans, fields_of}
 use Rattle.plan.specs.Plans.Plan.{aggregate, filter, join, limit, projection, sort, subquery_alias, table, union}
 use Rattle.plan.specs.Plans.Plans.{also, done}
@@ -13,8 +14,8 @@ use Rattle.plan.specs.Terms.Exprs.{more, none}
 use Rattle.plan.specs.Terms.Qualifier.{qualified, unqualified}
 use Rattle.rows.specs.Rows.{may_mean, rows_of, seek}
 use Rattle.rows.specs.Standing.{Good, Goods, Known, Knowns, Lawful, Means, Passed, Same, at}
-use Rattle.rewriting.proofs.Book.{law}
-use Rattle.rewriting.specs.Book.{Agree, Answers, Reply, Request, Run, State, Step, opened, tree_at}
+use Rattle.rewriting.proofs.Book.{kept-none, law, run-kept, step-loose}
+use Rattle.rewriting.specs.Book.{Agree, Answers, LooseAnswers, LooseRun, Request, Run, Step, opened}
 use Rattle.rewriting.specs.Laws.{Resolved, ResolvedAll}
 use Rattle.rewriting.specs.Reached.{Reached, ReachedHolds}
 use mathlib.Core.Logic.{∥∥₁_elim, ∥∥₁_map}
@@ -129,7 +130,7 @@ three_prop f g h p q = λ i. (f p.0 q.0 i, g p.1 q.1 i, h p.2 q.2 i)
 four_prop : {A B C D : Type 0} → IsProp A → IsProp B → IsProp C → IsProp D → IsProp (A × B × C × D)
 four_prop f g h k p q = λ i. (f p.0 q.0 i, g p.1 q.1 i, h p.2 q.2 i, k p.3 q.3 i)
 
-all_prop : {A : Type 0} (P : A → Type 0) → ((x : A) → IsProp (P x)) → (xs : List A) → IsProp (AllByRecursion P xs)
+all_prop : {A : Type 0} (P : A → Type 0) → ((x : A) → IsProp (P x)) → (xs : List A) → IsProp (All P xs)
 all_prop P f [] = unit-prop
 all_prop P f (x ∷ xs) = both_prop (f x) (all_prop P f xs)
 
@@ -186,26 +187,43 @@ mutual
   goods-prop F done = unit-prop
   goods-prop F (also i is) = both_prop (good-prop F i) (goods-prop F is)
 
-agree-prop : (s : State) → IsProp (Agree s)
+agree-prop : (s : Model) → IsProp (Agree s)
 agree-prop s p q = λ t. record {
-  good = λ i h. good-prop s.model.functions (tree_at s i) (p.good i h) (q.good i h) t;
-  same = λ i j h k e. same-prop s.model.functions (tree_at s i) (tree_at s j) (p.same i j h k e) (q.same i j h k e) t;
-  resolved = λ i h. resolved-prop s.model.functions (tree_at s i) (p.resolved i h) (q.resolved i h) t;
+  good = λ i h. good-prop s.functions (tree_at s i) (p.good i h) (q.good i h) t;
+  same = λ i j h k e. same-prop s.functions (tree_at s i) (tree_at s j) (p.same i j h k e) (q.same i j h k e) t;
+  resolved = λ i h. resolved-prop s.functions (tree_at s i) (p.resolved i h) (q.resolved i h) t;
 }
 
 -- one more call
-run_more : (s t s' : State) (ss : List Step) (c : Request) (a : Reply) → Run s ss t → Answers t c a s' → Run s (ss ++ (c, a) ∷ []) s'
-run_more s t s' [] c a r x = (s', subst (λ (u : State). Answers u c a s') r x, refl)
+pub run_more : (s t s' : Model) (ss : List Step) (c : Request) (a : Answer) → Run s ss t → Answers t c a s' → Run s (ss ++ (c, a) ∷ []) s'
+run_more s t s' [] c a r x = (s', subst (λ (u : Model). Answers u c a s') r x, refl)
 run_more s t s' (d ∷ ds) c a r x = (r.0, r.1, run_more r.0 t s' ds c a r.2 x)
+
+loose-more : (s t s' : Model) (ss : List Step) (c : Request) (a : Answer) → LooseRun s ss t → LooseAnswers t c a s' → LooseRun s (ss ++ (c, a) ∷ []) s'
+loose-more s t s' [] c a r x = (s', subst (λ (u : Model). LooseAnswers u c a s') r x, refl)
+loose-more s t s' (d ∷ ds) c a r x = (r.0, r.1, loose-more r.0 t s' ds c a r.2 x)
 
 pub reached-start : (F : Functions) (bytes : List ℕ) (used : Space) → Reached (opened F bytes used)
 reached-start F bytes used = ∣ (F, bytes, used, [], refl) ∣₁
 
-pub reached-further : (s s' : State) (c : Request) (a : Reply) → Reached s → Answers s c a s' → Reached s'
-reached-further s s' c a r x = ∥∥₁_map r (λ t. (t.0, t.1, t.2, t.3 ++ (c, a) ∷ [], run_more (opened t.0 t.1 t.2) s s' t.3 c a t.4 x))
+-- only the text of a book that was just opened is counted
+pub reached-opened : (F : Functions) (bytes : List ℕ) → Reached (just_opened F bytes)
+reached-opened F bytes = reached-start F bytes (space 0 0 0 0 (length bytes))
 
-pub reached-agree : (s : State) → Reached s → Agree s
+pub reached-loosely : (s s' : Model) (c : Request) (a : Answer) → Reached s → LooseAnswers s c a s' → Reached s'
+reached-loosely s s' c a r x = ∥∥₁_map r (λ t. (t.0, t.1, t.2, t.3 ++ (c, a) ∷ [], loose-more (opened t.0 t.1 t.2) s s' t.3 c a t.4 x))
+
+pub reached-further : (s s' : Model) (c : Request) (a : Answer) → Reached s → Answers s c a s' → Reached s'
+reached-further s s' c a r x = ∥∥₁_map r (λ t. (
+  t.0,
+  t.1,
+  t.2,
+  t.3 ++ (c, a) ∷ [],
+  loose-more (opened t.0 t.1 t.2) s s' t.3 c a t.4 (step-loose s s' c a (run-kept (opened t.0 t.1 t.2) s t.3 (kept-none t.0 t.1 t.2) t.4) x),
+))
+
+pub reached-agree : (s : Model) → Reached s → Agree s
 reached-agree s r = ∥∥₁_elim r (agree-prop s) (λ t. law.agree t.0 t.1 t.2 t.3 s t.4)
 
 pub reached-holds : ReachedHolds
-reached-holds = record { start = reached-start; further = reached-further; agree = reached-agree }
+reached-holds = record { start = reached-start; further = reached-further; loosely = reached-loosely; agree = reached-agree }

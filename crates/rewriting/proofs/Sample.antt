@@ -1,31 +1,32 @@
 -- The sample run, each step by computing.
-use Rattle.std.proofs.Common.{◌≡◌, ℕ, zero, suc, ◌+◌, ◌<◌, ◌≤◌, [], ◌∷◌, ◌++◌, get_or, sym, refl, subst, inl, arith, lit<, lit≤}
-use Rattle.plan.specs.Model.{space}
+use Rattle.std.proofs.Common.{◌≡◌, ℕ, zero, suc, ◌+◌, ◌<◌, ◌≤◌, [], ◌∷◌, ◌++◌, get_or, refl, inl, arith, lit<, lit≤}
+use Rattle.plan.specs.Model.{Model, space, inputs_at, no_node, tree_at}
+use Rattle.plan.specs.Calls.Answer.{made as made_node}
 use Rattle.plan.specs.Plans.Plan.{limit}
 use Rattle.rows.specs.Standing.{Good}
 use Rattle.rows.specs.Lists.{keep}
 use Rattle.rows.specs.Rows.{may_mean, seek, under}
 use Rattle.rows.specs.Standing.{pads_left, pads_right}
 use Rattle.rewriting.specs.Generated.{book_names, countable, digits_onto, expr_names, field_names, generated, highest, list_names, literal_names, next_number, node_names, plan_names, qualifier_names}
-use Rattle.rewriting.specs.Outlay.{after_walk, charged, count_inputs, entries_of, list_space, node_space, own_bytes, own_entries, own_space, plus, start_at, tree_space}
+use Rattle.plan.specs.Swapping.{count_inputs, own_bytes, own_entries, own_space}
+use Rattle.rewriting.specs.Outlay.{after_walk, charged, entries_of, list_space, node_space, plus, start_at, tree_space}
 use Rattle.rewriting.specs.Routing.{has_all_column_refs, have_all_column_refs, same_side, owner_of, find_sole_input, find_owning_input, empty_extractor, need, needs, noted, entered, add_extracted, taken_if, under_alias, under_call, routing_extract, routing_extracts, routing_extract_all, routing_extract_keys, unalias, pairs_of, needed_of}
 use Rattle.rewriting.specs.Extracting.{and_then, made_if, made, replace_cols, replace_cols_all, add_pair, add_pairs, add_column, add_columns, merged, freshly, build_extraction_projection, trial_space, stage_of, extracted, same_fields, by_place, build_recovery_projection, rebuilt, when_new, extract_from_plan}
 use Rattle.rewriting.specs.Pushing.{is_extracted, captured, back_to, walked, split_one, split_all, same_set, recover_push, or_in_place, push_split, split_and_push, or_keep, worker, not_tried, into_one, remap, remap_all, remap_pairs, remap_columns, into_subquery_alias, is_one, is_two, place_if, side_allows, into_join, is_pure, into_projection, same_places, aliases_of, places_in, fits_places, all_fit_places, united, into_union, work, works, closed, push}
 use Rattle.plan.specs.Terms.Expr.{reference}
 use Rattle.rewriting.specs.Worked.{functions, event, log, with_e, E, spot}
-use Rattle.rewriting.specs.Book.{State, Added, Helpers, Standing, inputs_at, tree_at, no_node, Answers}
+use Rattle.rewriting.specs.Book.{Added, Helpers, Standing, Answers}
 use Rattle.rewriting.specs.Book.Request.{extract, swap}
-use Rattle.rewriting.specs.Book.Reply.{made as made_node}
 use Rattle.rewriting.specs.Sample.{SampleRun, kind, holding, node, five_exprs, five_nodes, five_inputs, two_nodes, asked, rebuilt as rebuilt_filter, recovery, sample_end}
 
 -- the nodes before the extract, and before the swap
-abbrev before : State
+abbrev before : Model
 before = holding five_exprs two_nodes ([] ∷ (0 ∷ []) ∷ []) (space 5 2 4 4 30)
 
-abbrev after : State
+abbrev after : Model
 after = holding five_exprs five_nodes five_inputs (space 5 5 9 12 30)
 
-abbrev limited : State
+abbrev limited : Model
 limited = holding five_exprs (five_nodes ++ node (limit 0 3 asked) 5 ∷ []) (five_inputs ++ (1 ∷ []) ∷ []) (space 5 6 9 14 30)
 
 good-log : Good functions log
@@ -72,66 +73,43 @@ extract-adds = record {
     stand (suc (suc (suc (suc zero)))) c d = ((lit< tt, tt), refl)
     stand (suc (suc (suc (suc (suc k))))) c d = absurd (omega arith)
 
-swap-adds : Added limited (limit 0 3 recovery) 5 6 sample_end
-swap-adds = record {
-  helpers = [];
-  numbers = [];
-  theirs = record { long = refl; origins = λ k h. absurd (omega arith); good = tt };
-  own = 4 ∷ [];
-  exprs = [];
-  text = [];
-  number = refl;
-  functions_same = refl;
-  exprs_longer = refl;
-  plans_longer = refl;
-  inputs_longer = refl;
-  text_longer = refl;
-  stand = stand;
-}
-  where
-    six : (k : ℕ) → 6 ≤ k → k < 7 → k ≡ 6
-    six k c d = omega arith
-
-    stand : (k : ℕ) → 6 ≤ k → k < 7 → Standing sample_end.model.plans k (inputs_at sample_end k) (tree_at sample_end k)
-    stand k c d = subst (λ (j : ℕ). Standing sample_end.model.plans j (inputs_at sample_end j) (tree_at sample_end j)) (sym (six k c d)) ((lit< tt, tt), refl)
-
 extracted-node : Answers before (extract 1) (made_node 4) after
 unfolding keep start_at charged after_walk plus entries_of tree_space list_space count_inputs own_entries own_bytes own_space node_space literal_names field_names qualifier_names expr_names may_mean seek under pads_left pads_right digits_onto generated countable has_all_column_refs have_all_column_refs same_side owner_of find_sole_input find_owning_input empty_extractor need needs noted entered add_extracted taken_if under_alias under_call routing_extract routing_extracts routing_extract_all routing_extract_keys unalias pairs_of needed_of and_then made_if made replace_cols replace_cols_all add_pair add_pairs add_column add_columns merged freshly build_extraction_projection trial_space stage_of extracted same_fields by_place build_recovery_projection rebuilt when_new extract_from_plan is_extracted captured back_to walked split_one split_all same_set recover_push or_in_place push_split split_and_push or_keep worker not_tried into_one remap remap_all remap_pairs remap_columns into_subquery_alias is_one is_two place_if side_allows into_join is_pure into_projection same_places aliases_of places_in fits_places all_fit_places united into_union work works closed push list_names plan_names node_names book_names next_number highest
 extracted-node = (lit< tt, (recovery, _, refl, extract-adds, lit≤ tt), record { exprs = lit≤ tt; plans = lit≤ tt; entries = lit≤ tt; fields = lit≤ tt; bytes = lit≤ tt })
 
 swapped-node : Answers limited (swap 5 0 4) (made_node 6) sample_end
-unfolding swap-adds generated digits_onto own_space own_entries own_bytes
-swapped-node = (refl, (swap-adds, refl), record { exprs = lit≤ tt; plans = lit≤ tt; entries = lit≤ tt; fields = lit≤ tt; bytes = lit≤ tt })
+unfolding generated digits_onto own_space own_entries own_bytes count_inputs
+swapped-node = record { accepted = refl; number = refl; functions = refl; exprs = refl; plans = refl; inputs = refl; bytes = []; text = refl; used = refl }
 
 pub sample-run : SampleRun
 unfolding push
 sample-run = (
   holding [] (node log 0 ∷ []) ([] ∷ []) (space 0 1 0 2 14),
-  (record { accepted = refl; number = refl; functions = refl; exprs = refl; plans = refl; bytes = []; text = refl; used = refl }, refl),
+  record { accepted = refl; number = refl; functions = refl; exprs = refl; plans = refl; inputs = refl; bytes = []; text = refl; used = refl },
   (
     holding (reference event ∷ []) (node log 0 ∷ []) ([] ∷ []) (space 1 1 0 2 22),
-    (record { accepted = refl; number = refl; functions = refl; exprs = refl; plans = refl; bytes = []; text = refl; used = refl }, refl),
+    record { accepted = refl; number = refl; functions = refl; exprs = refl; plans = refl; inputs = refl; bytes = []; text = refl; used = refl },
     (
       holding (reference event ∷ kind ∷ []) (node log 0 ∷ []) ([] ∷ []) (space 2 1 0 2 26),
-      (record { accepted = refl; number = refl; functions = refl; exprs = refl; plans = refl; bytes = []; text = refl; used = refl }, refl),
+      record { accepted = refl; number = refl; functions = refl; exprs = refl; plans = refl; inputs = refl; bytes = []; text = refl; used = refl },
       (
         holding (reference event ∷ kind ∷ E ∷ []) (node log 0 ∷ []) ([] ∷ []) (space 3 1 2 2 26),
-        (record { accepted = refl; number = refl; functions = refl; exprs = refl; plans = refl; bytes = []; text = refl; used = refl }, refl),
+        record { accepted = refl; number = refl; functions = refl; exprs = refl; plans = refl; inputs = refl; bytes = []; text = refl; used = refl },
         (
           holding (reference event ∷ kind ∷ E ∷ spot ∷ []) (node log 0 ∷ []) ([] ∷ []) (space 4 1 2 2 30),
-          (record { accepted = refl; number = refl; functions = refl; exprs = refl; plans = refl; bytes = []; text = refl; used = refl }, refl),
+          record { accepted = refl; number = refl; functions = refl; exprs = refl; plans = refl; inputs = refl; bytes = []; text = refl; used = refl },
           (
             holding five_exprs (node log 0 ∷ []) ([] ∷ []) (space 5 1 4 2 30),
-            (record { accepted = refl; number = refl; functions = refl; exprs = refl; plans = refl; bytes = []; text = refl; used = refl }, refl),
+            record { accepted = refl; number = refl; functions = refl; exprs = refl; plans = refl; inputs = refl; bytes = []; text = refl; used = refl },
             (
               before,
-              (record { accepted = refl; number = refl; functions = refl; exprs = refl; plans = refl; bytes = []; text = refl; used = refl }, refl),
+              record { accepted = refl; number = refl; functions = refl; exprs = refl; plans = refl; inputs = refl; bytes = []; text = refl; used = refl },
               (
                 after,
                 extracted-node,
                 (
                   limited,
-                  (record { accepted = refl; number = refl; functions = refl; exprs = refl; plans = refl; bytes = []; text = refl; used = refl }, refl),
+                  record { accepted = refl; number = refl; functions = refl; exprs = refl; plans = refl; inputs = refl; bytes = []; text = refl; used = refl },
                   (
                     sample_end,
                     swapped-node,

@@ -1,5 +1,5 @@
 -- A node with another input in the place of one that is the same: the same fields and rows, and a good node if it passes.
-use Rattle.std.proofs.Common.{ℕ, zero, suc, ◌<◌, T, eqb, length, get_or, le_of_suc-le-suc, not-suc-le-zero, arith}
+use Rattle.std.proofs.Common.{◌≡◌, ℕ, zero, suc, ◌<◌, T, eqb, ◌∷◌, length, get_or, set, refl, ap, le_of_suc-le-suc, not-suc-le-zero, arith}
 use mir.Facts.{and_yes, yes_and}
 use Rattle.plan.specs.Functions.{Functions}
 use Rattle.plan.specs.Model.{no_plan}
@@ -9,7 +9,7 @@ use Rattle.plan.specs.Plans.Plans.{also, done}
 use Rattle.rows.proofs.Congruence.{same-aggregate, same-filter, same-join, same-limit, same-project, same_refl, same-sort, same-subquery}
 use Rattle.rows.proofs.More.{SameAll, same-union}
 use Rattle.rows.specs.Standing.{Good, Goods, Passed, Same, wide_all}
-use Rattle.rewriting.specs.Book.{inputs_of, plan_list, swap_in, with_input}
+use Rattle.plan.specs.Swapping.{inputs_of, plan_list, swap_in, with_input}
 
 goods-swap : (F : Functions) (is : Plans) (k : ℕ) (p : Plan) → Goods F is → Good F p → Goods F (swap_in is k p)
 goods-swap F done k p g h = tt
@@ -68,3 +68,29 @@ swap-good F (join j cs x y) (suc k) p l s g h a = (a, g.1, h)
 swap-good F (subquery_alias n i) k p l s g h a = (a, h)
 swap-good F (union i is) zero p l s g h a = (a, h, g.2, rw s.fields_same g.3)
 swap-good F (union i is) (suc k) p l s g h a = (a, g.1, goods-swap F is k p g.2 h, wide-swap F (length (fields_of F i)) is k p (le_of_suc-le-suc l) s g.3)
+
+plans-swap : (is : Plans) (k : ℕ) (p : Plan) → plan_list (swap_in is k p) ≡ set (plan_list is) k p
+plans-swap done k p = refl
+plans-swap (also i is) zero p = refl
+plans-swap (also i is) (suc k) p = ap (λ l. i ∷ l) (plans-swap is k p)
+
+-- what it stands on then
+pub inputs-swap : (P : Plan) (k : ℕ) (p : Plan) → k < length (inputs_of P) → inputs_of (with_input P k p) ≡ set (inputs_of P) k p
+inputs-swap (table j q ns) k p l = absurd (not-suc-le-zero l)
+inputs-swap (projection es i) zero p l = refl
+inputs-swap (projection es i) (suc k) p l = absurd (omega arith)
+inputs-swap (filter e i) zero p l = refl
+inputs-swap (filter e i) (suc k) p l = absurd (omega arith)
+inputs-swap (sort ks i) zero p l = refl
+inputs-swap (sort ks i) (suc k) p l = absurd (omega arith)
+inputs-swap (limit n c i) zero p l = refl
+inputs-swap (limit n c i) (suc k) p l = absurd (omega arith)
+inputs-swap (aggregate gs ts i) zero p l = refl
+inputs-swap (aggregate gs ts i) (suc k) p l = absurd (omega arith)
+inputs-swap (join j cs x y) zero p l = refl
+inputs-swap (join j cs x y) (suc zero) p l = refl
+inputs-swap (join j cs x y) (suc (suc k)) p l = absurd (omega arith)
+inputs-swap (subquery_alias n i) zero p l = refl
+inputs-swap (subquery_alias n i) (suc k) p l = absurd (omega arith)
+inputs-swap (union i is) zero p l = refl
+inputs-swap (union i is) (suc k) p l = ap (λ l. i ∷ l) (plans-swap is k p)

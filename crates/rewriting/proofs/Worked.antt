@@ -4,7 +4,8 @@ use Rattle.rows.specs.Lists.{keep}
 use Rattle.rows.specs.Rows.{may_mean, seek, under}
 use Rattle.rows.specs.Standing.{pads_left, pads_right}
 use Rattle.rewriting.specs.Generated.{expr_names, field_names, literal_names, qualifier_names, digits_onto, generated, countable}
-use Rattle.rewriting.specs.Outlay.{after_walk, charged, count_inputs, entries_of, list_space, node_space, own_bytes, own_entries, own_space, plus, start_at, tree_space}
+use Rattle.plan.specs.Swapping.{count_inputs, own_bytes, own_entries, own_space}
+use Rattle.rewriting.specs.Outlay.{after_walk, charged, entries_of, list_space, node_space, plus, start_at, tree_space}
 use Rattle.rewriting.specs.Routing.{has_all_column_refs, have_all_column_refs, same_side, owner_of, find_sole_input, find_owning_input, empty_extractor, need, needs, noted, entered, add_extracted, taken_if, under_alias, under_call, routing_extract, routing_extracts, routing_extract_all, routing_extract_keys, unalias, pairs_of, needed_of}
 use Rattle.rewriting.specs.Extracting.{and_then, made_if, made, replace_cols, replace_cols_all, add_pair, add_pairs, add_column, add_columns, merged, freshly, build_extraction_projection, trial_space, stage_of, extracted, same_fields, by_place, build_recovery_projection, rebuilt, when_new, extract_from_plan}
 use Rattle.rewriting.specs.Pushing.{is_extracted, captured, back_to, walked, split_one, split_all, same_set, recover_push, or_in_place, push_split, split_and_push, or_keep, worker, not_tried, into_one, remap, remap_all, remap_pairs, remap_columns, into_subquery_alias, is_one, is_two, place_if, side_allows, into_join, is_pure, into_projection, same_places, aliases_of, places_in, fits_places, all_fit_places, united, into_union, work, works, closed, push}

@@ -7,22 +7,22 @@ use Rattle.plan.specs.Terms.Literal.{text}
 use Rattle.plan.specs.Terms.Expr.{literal, reference}
 use Rattle.plan.specs.Plans.{Plan}
 use Rattle.plan.specs.Plans.Plan.{projection, filter, limit}
-use Rattle.plan.specs.Model.{Node, Space, space}
+use Rattle.plan.specs.Model.{Model, Node, Space, space}
 use Rattle.plan.specs.Faults.{refusal}
 use Rattle.plan.specs.Calls.Call.{make_literal, make_reference, make_call, make_table, make_filter, make_limit}
 use Rattle.plan.specs.declared.fault.Question.TheVariants.{Present}
 use Rattle.rewriting.specs.Outlay.{nothing}
 use Rattle.rewriting.specs.Worked.{functions, event, start, log, E, X, two, spot, with_e}
-use Rattle.rewriting.specs.Book.{State, Step, Run, opened}
+use Rattle.rewriting.specs.Book.{Step, Run, opened}
 use Rattle.rewriting.specs.Book.Request.{build, extract, push_down, swap}
-use Rattle.rewriting.specs.Book.Reply.{made, unchanged, refused}
+use Rattle.plan.specs.Calls.Answer.{made, unchanged, refused}
 
 abbrev pub node : Plan → ℕ → Node
 node p o = record { tree = p; origin = o }
 
 -- a book with these expressions and nodes, and so much of its tables used
-abbrev pub holding : List Expr → List Node → List (List ℕ) → Space → State
-holding es ns is used = record { model = record { functions = functions; exprs = es; plans = ns; text = []; used = used }; inputs = is }
+abbrev pub holding : List Expr → List Node → List (List ℕ) → Space → Model
+holding es ns is used = record { functions = functions; exprs = es; plans = ns; inputs = is; text = []; used = used }
 
 abbrev pub kind : Expr
 kind = literal (text (codes "kind"))
@@ -68,7 +68,7 @@ sample_steps =
     ∷ (extract 7, refused (refusal Present))
     ∷ []
 
-abbrev pub sample_end : State
+abbrev pub sample_end : Model
 sample_end = holding five_exprs (five_nodes ++ (node (limit 0 3 asked) 5 ∷ node (limit 0 3 recovery) 5 ∷ [])) (five_inputs ++ ((1 ∷ []) ∷ (4 ∷ []) ∷ [])) (space 5 7 9 16 30)
 
 abbrev pub SampleRun : Type 0
