@@ -1,0 +1,89 @@
+-- Where a reference finds its field.
+use Rattle.std.proofs.Common.{◌≡◌, ℕ, suc, ◌+◌, ◌<◌, Bool, true, false, cond, ◌&&◌, ◌||◌, List, [], ◌∷◌, length, count_by, sym, refl, ap, ◌∙◌, arith}
+use Rattle.std.specs.Str.{bytes_eq}
+use Rattle.std.proofs.lemmas.List.Sums.{sum_by-cons}
+use Rattle.std.proofs.lemmas.Bool.{and_parts, eqb-true, false≢true}
+use Rattle.plan.specs.Fields.{any, named, resolved, resolves}
+use Rattle.plan.specs.Names.{Name}
+use Rattle.plan.specs.Terms.{Expr, Field, Qualifier, same_field, same_qualifier}
+use Rattle.plan.specs.Terms.Qualifier.{qualified, unqualified}
+use Rattle.plan.specs.Terms.Expr.{reference}
+use Rattle.rows.specs.Rows.{may_mean, seek, under}
+
+pub under_none : (q : Qualifier) → under unqualified q ≡ true
+unfolding under
+under_none q = refl
+
+pub under-lost : (n : Name) → under (qualified n) unqualified ≡ false
+unfolding under
+under-lost n = refl
+
+pub under-both : (m n : Name) → under (qualified m) (qualified n) ≡ bytes_eq m n
+unfolding under
+under-both m n = refl
+
+pub means-by : (r f : Field) → may_mean r f ≡ (under r.qualifier f.qualifier && bytes_eq r.name f.name)
+unfolding may_mean
+means-by r f = refl
+
+module _ (r : Field) where
+  -- the next field is meant
+  pub seek-here : (f : Field) (fs : List Field) (i : ℕ) → may_mean r f ≡ true → i + seek r (f ∷ fs) ≡ i
+  unfolding seek
+  seek-here f fs i h = ap (λ b. i + cond b 0 (suc (seek r fs))) h ∙ omega arith
+
+  -- the next field is passed over
+  pub seek-past : (f : Field) (fs : List Field) (i : ℕ) → may_mean r f ≡ false → i + seek r (f ∷ fs) ≡ (i + 1) + seek r fs
+  unfolding seek
+  seek-past f fs i h = ap (λ b. i + cond b 0 (suc (seek r fs))) h ∙ omega arith
+
+  pub seek-none : (i : ℕ) → i + seek r [] ≡ i
+  unfolding seek
+  seek-none i = omega arith
+
+  -- where a field may be meant, one is found
+  found : (fs : List Field) → any (may_mean r) fs ≡ true → seek r fs < length fs
+  unfolding seek
+  found [] h = absurd (false≢true h)
+  found (f ∷ fs) h = go (may_mean r f) refl h (found fs)
+    where
+      go : (b : Bool) → may_mean r f ≡ b → (b || any (may_mean r) fs) ≡ true → (any (may_mean r) fs ≡ true → seek r fs < length fs) → cond b 0 (suc (seek r fs)) < suc (length fs)
+      go true e h ih = omega arith
+      go false e h ih = omega (arith, ih h)
+
+some-counted : (p : Field → Bool) (fs : List Field) → count_by p fs ≡ 1 → any p fs ≡ true
+some-counted p [] h = absurd (omega arith)
+some-counted p (f ∷ fs) h = go (p f) refl (sym (sum_by-cons (λ x. cond (p x) 1 0) f fs) ∙ h) (some-counted p fs)
+  where
+    go : (b : Bool) → p f ≡ b → cond b 1 0 + count_by p fs ≡ 1 → (count_by p fs ≡ 1 → any p fs ≡ true) → (b || any p fs) ≡ true
+    go true e h ih = refl
+    go false e h ih = ih (omega arith)
+
+any-alike : (p q : Field → Bool) → ((f : Field) → p f ≡ q f) → (fs : List Field) → any p fs ≡ any q fs
+any-alike p q h [] = refl
+any-alike p q h (f ∷ fs) = ap (λ b. b || any p fs) (h f) ∙ ap (λ b. q f || b) (any-alike p q h fs)
+
+by_name : (n : Name) (f : Field) → named n f ≡ may_mean (record { qualifier = unqualified; name = n }) f
+unfolding may_mean under
+by_name n f = refl
+
+by_field_lem : (q n : Name) (f : Field) → same_field (record { qualifier = qualified q; name = n }) f ≡ may_mean (record { qualifier = qualified q; name = n }) f
+unfolding may_mean under
+by_field_lem q n f = ap (λ b. b && bytes_eq n f.name) (alike f.qualifier)
+  where
+    alike : (o : Qualifier) → same_qualifier (qualified q) o ≡ under (qualified q) o
+    alike unqualified = refl
+    alike (qualified o) = refl
+
+-- a reference that resolves finds a field
+pub resolves-found : (fs : List Field) (q : Qualifier) (n : Name) → resolves fs (record { qualifier = q; name = n }) ≡ true → seek (record { qualifier = q; name = n }) fs < length fs
+resolves-found fs unqualified n h =
+    let r : Field = record { qualifier = unqualified; name = n } in
+    found r fs (sym (any-alike (named n) (may_mean r) (by_name n) fs) ∙ some-counted (named n) fs (eqb-true (count_by (named n) fs) 1 h))
+resolves-found fs (qualified q) n h =
+    let r : Field = record { qualifier = qualified q; name = n } in
+    found r fs (sym (any-alike (same_field r) (may_mean r) (by_field_lem q n) fs) ∙ h)
+
+pub reference-found : (fs : List Field) (e : Expr) (r : Field) → e ≡ reference r → resolved fs e ≡ true → seek r fs < length fs
+reference-found fs e r h k =
+    resolves-found fs r.qualifier r.name (and_parts (resolves fs r) true (sym (ap (resolved fs) h) ∙ k)).0

@@ -1,0 +1,115 @@
+-- What an expression means on a row, part by part, and how much scratch it takes.
+use Rattle.std.proofs.Common.{◌≡◌, ℕ, zero, suc, ◌+◌, ◌<◌, ◌≤◌, true, List, [], ◌∷◌, ◌++◌, map, length, get_or, take, set, sym, refl, ap, ◌∙◌, ap₂, arith}
+use Rattle.std.proofs.lemmas.List.{get_or-map, length-map, map_push, take_more, take_more_set}
+use Rattle.plan.specs.Fields.{resolved}
+use Rattle.plan.specs.Model.{expr_in, no_expr}
+use Rattle.plan.specs.Terms.{Expr, Exprs, Field, Literal, arguments, size_of, sizes_of}
+use Rattle.plan.specs.Terms.Expr.{alias, call, literal, reference}
+use Rattle.plan.specs.Terms.Exprs.{more, none}
+use Rattle.plan.specs.Values.{Value}
+use Rattle.plan.specs.Values.Value.{null}
+use Rattle.terms.specs.Build.{inside_node, numbers_in}
+use Rattle.terms.specs.Views.{tree_of, view_of}
+use Rattle.terms.specs.declared.node.ExprNode.TheVariants.{Call}
+use Rattle.terms.specs.declared.terms.Terms.{Terms}
+use Rattle.terms.proofs.Frames.{every-at}
+use Rattle.terms.proofs.Walks.{called, resolved-arguments}
+use Rattle.rows.specs.Rows.{literal_value, seek, value_in, values_in}
+use Rattle.rows.specs.Worlds.{Row, World, applied}
+use Rattle.evaluate.specs.Evaluating.{bare}
+
+module _ (w : World) (fs : List Field) (row : Row) where
+  pub of-literal : (v : Literal) → value_in w fs row (literal v) ≡ literal_value v
+  unfolding value_in
+  of-literal v = refl
+
+  pub of-reference : (r : Field) → value_in w fs row (reference r) ≡ get_or row (seek r fs) null
+  unfolding value_in
+  of-reference r = refl
+
+  pub of-alias : (e : Expr) (f : Field) → value_in w fs row (alias e f) ≡ value_in w fs row e
+  unfolding value_in
+  of-alias e f = refl
+
+  of-list : (es : List Expr) → values_in w fs row (arguments es) ≡ map (value_in w fs row) es
+  unfolding value_in
+  of-list [] = refl
+  of-list (e ∷ es) = ap (λ vs. value_in w fs row e ∷ vs) (of-list es)
+
+  pub of-call : (n : ℕ) (es : List Expr) → value_in w fs row (call n (arguments es)) ≡ applied w n (map (value_in w fs row) es)
+  unfolding value_in
+  of-call n es = ap (applied w n) (of-list es)
+
+-- of a world only the engine and the texts matter
+module _ (w : World) (fs : List Field) (row : Row) where
+  mutual
+    unfolding value_in
+
+    same-bare : (e : Expr) → value_in w fs row e ≡ value_in (bare w.meaning w.book_text w.row_text) fs row e
+    same-bare (literal v) = refl
+    same-bare (reference r) = refl
+    same-bare (alias e f) = same-bare e
+    same-bare (call n es) = ap (applied w n) (same-bares es)
+
+    same-bares : (es : Exprs) → values_in w fs row es ≡ values_in (bare w.meaning w.book_text w.row_text) fs row es
+    same-bares none = refl
+    same-bares (more e es) = ap₂ (λ v vs. v ∷ vs) (same-bare e) (same-bares es)
+
+  pub same-world : (meaning : List ℕ → List ℕ → ℕ → List Value → Value) (book text : List ℕ) → w.meaning ≡ meaning → w.book_text ≡ book → w.row_text ≡ text → (e : Expr) → value_in (bare meaning book text) fs row e ≡ value_in w fs row e
+  same-world meaning book text p q r e =
+      sym (same-bare e ∙ ap (λ m. value_in (bare m w.book_text w.row_text) fs row e) p ∙ ap (λ b. value_in (bare meaning b w.row_text) fs row e) q ∙ ap (λ t. value_in (bare meaning book t) fs row e) r)
+
+-- a tree has a node
+some_size : (e : Expr) → 1 ≤ size_of e
+some_size (literal v) = omega arith
+some_size (reference f) = omega arith
+some_size (alias e f) = omega arith
+some_size (call n es) = omega arith
+
+-- a place for each argument
+pub places : (es : List Expr) → length es ≤ sizes_of (arguments es)
+places [] = omega arith
+places (e ∷ es) = omega (arith, some_size e, places es)
+
+-- beside those places, each argument has room for its own tree
+pub beside : (es : List Expr) (i : ℕ) (d : Expr) → i < length es → size_of (get_or es i d) + length es ≤ sizes_of (arguments es) + 1
+beside [] i d lt = absurd (omega arith)
+beside (e ∷ es) zero d lt = omega (arith, places es)
+beside (e ∷ es) (suc i) d lt = omega (arith, some_size e, beside es i d (omega arith))
+
+-- one value more, of the next argument
+pub one_more : {X : Type 0} (m : X → Value) (f : Expr → Value) (xs : List X) (es : List Expr) (i : ℕ) (x : X) (d : Expr) → i < length xs → i < length es
+    → map m (take i xs) ≡ map f (take i es) → m x ≡ f (get_or es i d) → map m (take (i + 1) (set xs i x)) ≡ map f (take (i + 1) es)
+one_more m f xs es i x d lt in-es inv h =
+    ap (map m) (take_more_set xs i x lt) ∙ map_push m (take i xs) x ∙ ap₂ (λ vs v. vs ++ v ∷ []) inv h ∙ sym (ap (map f) (take_more es i d in-es) ∙ map_push f (take i es) (get_or es i d))
+
+-- the arguments of a call
+abbrev pub arguments_of : Terms → ℕ → ℕ → List Expr
+arguments_of t first count = map (expr_in (view_of t).trees) (numbers_in (view_of t).entries first count)
+
+-- what the walk knows of a call e whose arguments stand in the list table
+module _ (t : Terms) (e f first count : ℕ) (inside : inside_node (view_of t).bytes (view_of t).entries e (Call f first count) ≡ true) (tree : tree_of t e ≡ call f (arguments (arguments_of t first count))) where
+  pub counted : length (arguments_of t first count) ≡ count
+  counted =
+      length-map (numbers_in (view_of t).entries first count) (expr_in (view_of t).trees) ∙ (called (view_of t).bytes (view_of t).entries e f first count inside).counts
+
+  pub enough : (room : ℕ) → size_of (tree_of t e) ≤ room → count ≤ room
+  enough room h = omega (arith, places (arguments_of t first count), counted, ap size_of tree)
+
+  module _ (i a : ℕ) (lt : i < count) (is : a ≡ get_or (numbers_in (view_of t).entries first count) i 0) where
+    pub lower : a < e
+    lower = omega (arith, (called (view_of t).bytes (view_of t).entries e f first count inside).lower i lt)
+
+    pub argument : tree_of t a ≡ get_or (arguments_of t first count) i no_expr
+    argument =
+        let long : i < length (numbers_in (view_of t).entries first count) = omega (arith, (called (view_of t).bytes (view_of t).entries e f first count inside).counts) in
+        ap (tree_of t) is ∙ sym (get_or-map (expr_in (view_of t).trees) (numbers_in (view_of t).entries first count) i 0 no_expr long)
+
+    pub argument-resolved : (fs : List Field) → resolved fs (tree_of t e) ≡ true → resolved fs (tree_of t a) ≡ true
+    argument-resolved fs h =
+        ap (resolved fs) argument
+        ∙ every-at (resolved fs) (arguments_of t first count) i no_expr (omega (arith, counted)) (sym (resolved-arguments fs (arguments_of t first count)) ∙ sym (ap (resolved fs) tree) ∙ h)
+
+    pub argument-room : (room rest : ℕ) → size_of (tree_of t e) ≤ room → rest + count ≡ room → size_of (tree_of t a) ≤ rest
+    argument-room room rest h k =
+        omega (arith, beside (arguments_of t first count) i no_expr (omega (arith, counted)), counted, ap size_of tree, ap size_of argument)

@@ -1,0 +1,225 @@
+//! What is evaluated on examples, what is refused, and what fits.
+ghost use Rattle.std.specs.Prelude.{◌≡◌, None};
+
+use super::{evaluate, fits};
+use book::declaration::Book;
+use book::opened::OpenBook;
+use engine::arithmetic::Arithmetic;
+use engine::pair::Pair;
+use engine::records::{Entry, Records};
+use plan::fault::Fault;
+use std::test::Fail;
+use terms::node::{ExprId, PlanId};
+use value::{Side, Text, Value};
+
+/// The number of a total.
+const SUM: u8 = 6;
+
+/// A book with a table (a, b) that declares the arithmetic and the fields of records; `missing` is strict or not.
+fn opened(missing: bool) -> Result<OpenBook, Fault> {
+    let mut book = Book::new();
+    book.declare(0, b"equal", 2, 0, true)?;
+    book.declare(1, b"plus", 2, 0, true)?;
+    book.declare(2, b"minus", 2, 0, true)?;
+    book.declare(4, b"missing", 1, 0, missing)?;
+    book.declare(5, b"get_field", 2, 1, true)?;
+    book.declare(SUM, b"sum", 1, 4, false)?;
+    let mut open = book.open();
+    open.table(b"t", b"a,b")?;
+    Ok(open)
+}
+
+fn unqualified<'a>() -> Option<&'a [u8]>
+    ensures { result ≡ None }
+{
+    None
+}
+
+/// A call of two columns.
+fn of_columns(book: &mut OpenBook, number: u8) -> Result<ExprId, Fault> {
+    let a = book.reference(b"a", unqualified())?;
+    let b = book.reference(b"b", Some(b"t"))?;
+    book.call(number, &[a, b])
+}
+
+/// The value of an expression where a and b hold these; the row text is `xage`, and record 7 has an age.
+fn value_at(book: &OpenBook, e: ExprId, a: Value, b: Value) -> Result<Value, Fault> {
+    let entries = [Entry {
+        owner: 7,
+        name: b"age",
+        value: Value::Whole(41),
+    }];
+    let engine = Pair {
+        split: 5,
+        first: Arithmetic,
+        second: Records { entries: &entries },
+    };
+    let mut scratch = [Value::Null; 256];
+    evaluate(book, &engine, e, PlanId(0), &[a, b], b"xage", &mut scratch)
+}
+
+fn part(start: u32, len: u32) -> Value {
+    Value::Text(Text {
+        side: Side::Row,
+        start,
+        len,
+    })
+}
+
+fn is_null(v: Value) -> bool {
+    match v {
+        Value::Null => true,
+        _ => false,
+    }
+}
+
+fn is_whole(v: Value, n: i64) -> bool {
+    match v {
+        Value::Whole(m) => m == n,
+        _ => false,
+    }
+}
+
+fn is_truth(v: Value, b: bool) -> bool {
+    match v {
+        Value::Truth(t) => t == b,
+        _ => false,
+    }
+}
+
+#[test]
+fn sums(rt: HostRuntime) -> Result<(), Fail> {
+    let mut book = opened(false)?;
+    let sum = of_columns(&mut book, 1)?;
+    let least = Value::Whole(i64::MIN);
+    assert!(rt; is_whole(value_at(&book, sum, Value::Whole(2), Value::Whole(50))?, 52));
+    assert!(rt; is_null(value_at(&book, sum, Value::Whole(i64::MAX), Value::Whole(1))?));
+    assert!(rt; is_null(value_at(&book, sum, least, Value::Whole(-1))?));
+    assert!(rt; is_whole(value_at(&book, sum, least, Value::Whole(0))?, i64::MIN));
+    Ok(())
+}
+
+#[test]
+fn arguments_keep_their_order(rt: HostRuntime) -> Result<(), Fail> {
+    let mut book = opened(false)?;
+    let inner = of_columns(&mut book, 2)?;
+    let named = book.alias(inner, b"a", unqualified())?;
+    let b = book.reference(b"b", unqualified())?;
+    let outer = book.call(2, &[b, named])?;
+    assert!(rt;
+        is_whole(
+            value_at(&book, inner, Value::Whole(2), Value::Whole(50))?,
+            -48,
+        )
+    );
+    assert!(rt;
+        is_whole(
+            value_at(&book, outer, Value::Whole(2), Value::Whole(50))?,
+            98,
+        )
+    );
+    Ok(())
+}
+
+#[test]
+fn real_literals(rt: HostRuntime) -> Result<(), Fail> {
+    let mut book = opened(false)?;
+    let a = book.reference(b"a", unqualified())?;
+    let zero = book.real(-0.0)?;
+    let like_zero = book.call(0, &[a, zero])?;
+    let odd = book.real(0.0 / 0.0)?;
+    let like_odd = book.call(0, &[odd, odd])?;
+    assert!(rt;
+        is_truth(
+            value_at(&book, like_zero, Value::Real(0.0), Value::Null)?,
+            true,
+        )
+    );
+    assert!(rt; is_truth(value_at(&book, like_odd, Value::Null, Value::Null)?, false));
+    Ok(())
+}
+
+#[test]
+fn text_literals(rt: HostRuntime) -> Result<(), Fail> {
+    let mut book = opened(false)?;
+    let a = book.reference(b"a", unqualified())?;
+    let age = book.text(b"age")?;
+    let like_age = book.call(0, &[a, age])?;
+    let lost = book.call(4, &[a])?;
+    let field = book.call(5, &[a, age])?;
+    assert!(rt; is_truth(value_at(&book, like_age, part(1, 3), Value::Null)?, true));
+    assert!(rt; is_null(value_at(&book, like_age, part(2, 3), Value::Null)?));
+    assert!(rt; is_truth(value_at(&book, lost, part(2, 3), Value::Null)?, true));
+    assert!(rt; is_whole(value_at(&book, field, Value::Record(7), Value::Null)?, 41));
+    Ok(())
+}
+
+/// Whether a call is refused with a question, at stage 1 and level 0, and leaves threes in the scratch.
+fn refuses(
+    book: &OpenBook,
+    e: u32,
+    p: u32,
+    values: &[Value],
+    scratch: &mut [Value],
+    question: u8,
+) -> bool {
+    match evaluate(
+        book,
+        &Arithmetic,
+        ExprId(e),
+        PlanId(p),
+        values,
+        b"",
+        scratch,
+    ) {
+        Ok(_) => false,
+        Err(f) => f.question.number() == question
+            && f.stage.number() == 1
+            && f.level == 0
+            && is_kept(scratch),
+    }
+}
+
+fn is_kept(scratch: &[Value]) -> bool {
+    for v in scratch {
+        if !is_whole(*v, 3) {
+            return false;
+        }
+    }
+    true
+}
+
+#[test]
+fn refusals(rt: HostRuntime) -> Result<(), Fail> {
+    let mut book = opened(false)?;
+    let a = book.reference(b"a", unqualified())?;
+    let sum = book.call(SUM, &[a])?;
+    let named = book.alias(sum, b"sum", unqualified())?;
+    let c = book.reference(b"c", unqualified())?;
+    let inside = book.call(4, &[c])?;
+    let two = [Value::Null, Value::Null];
+    let one = [Value::Null];
+    let mut enough = [Value::Whole(3); 256];
+    let mut short = [Value::Whole(3); 255];
+    assert!(rt; refuses(&book, 5, 0, &two, &mut enough, 1));
+    assert!(rt; refuses(&book, a.0, 1, &one, &mut short, 1));
+    assert!(rt; refuses(&book, a.0, 0, &one, &mut enough, 3));
+    assert!(rt; refuses(&book, named.0, 0, &two, &mut short, 3));
+    assert!(rt; refuses(&book, sum.0, 0, &two, &mut enough, 4));
+    assert!(rt; refuses(&book, named.0, 0, &two, &mut enough, 4));
+    assert!(rt; refuses(&book, inside.0, 0, &two, &mut enough, 6));
+    assert!(rt; !refuses(&book, a.0, 0, &two, &mut enough, 6));
+    Ok(())
+}
+
+#[test]
+fn fitness(rt: HostRuntime) -> Result<(), Fail> {
+    let engine = Pair {
+        split: 5,
+        first: Arithmetic,
+        second: Arithmetic,
+    };
+    assert!(rt; fits(&opened(false)?, &engine));
+    assert!(rt; !fits(&opened(true)?, &engine));
+    Ok(())
+}

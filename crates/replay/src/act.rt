@@ -1,0 +1,77 @@
+//! A call as a value, and what it is answered.
+use plan::fault::Fault;
+use tables::node::Key;
+use terms::node::{ExprId, PlanId};
+
+/// A call of an open book, with what the caller gives.
+#[derive(Clone, Copy)]
+pub enum Act<'a> {
+    Null,
+    Truth(bool),
+    Whole(i64),
+    Real(f64),
+    Text(&'a [u8]),
+    Reference {
+        name: &'a [u8],
+        qualifier: Option<&'a [u8]>,
+    },
+    Alias {
+        inner: ExprId,
+        name: &'a [u8],
+        qualifier: Option<&'a [u8]>,
+    },
+    Call {
+        function: u8,
+        arguments: &'a [ExprId],
+    },
+    Table {
+        qualifier: &'a [u8],
+        names: &'a [u8],
+    },
+    Projection {
+        input: PlanId,
+        list: &'a [ExprId],
+    },
+    Filter {
+        input: PlanId,
+        predicate: ExprId,
+    },
+    Sort {
+        input: PlanId,
+        keys: &'a [Key],
+    },
+    Limit {
+        input: PlanId,
+        skip: u32,
+        count: u32,
+    },
+    Aggregate {
+        input: PlanId,
+        groups: &'a [ExprId],
+        totals: &'a [ExprId],
+    },
+    Join {
+        kind: u8,
+        left: PlanId,
+        right: PlanId,
+        on: &'a [ExprId],
+    },
+    SubqueryAlias {
+        input: PlanId,
+        name: &'a [u8],
+    },
+    Union(&'a [PlanId]),
+    Swap {
+        node: PlanId,
+        position: u32,
+        input: PlanId,
+    },
+}
+
+/// What a call is answered.
+#[derive(Clone, Copy)]
+pub enum Answer {
+    /// The number of the expression or of the node that was made.
+    Made(u32),
+    Refused(Fault),
+}
