@@ -2,7 +2,7 @@
 ghost use Rattle.std.specs.Prelude.{◌≡◌, None};
 
 use book::declaration::Book;
-use book::tables::OpenBook;
+use book::opened::OpenBook;
 use plan::fault::Fault;
 use terms::node::ExprId;
 

@@ -1,8 +1,8 @@
 //! Question 3: counts, codes and function numbers keep their bounds.
 use crate::answers::{NONE, first, has_counts, opened, refused_with, short_names, totals, wholes};
 use book::declaration::Book;
-use book::node::Key;
 use std::test::Fail;
+use tables::node::Key;
 use terms::node::{ExprId, PlanId};
 
 #[test]

@@ -1,7 +1,7 @@
 //! Questions 6 and 7: references resolve, and fields can stand together.
 use crate::answers::{TOTAL, has_counts, opened, refused_with, unqualified};
-use book::node::Key;
 use std::test::Fail;
+use tables::node::Key;
 use terms::node::PlanId;
 
 #[test]

@@ -1,4 +1,6 @@
 //! Tests of the calls of a book: each question, at both sides of each bound that it has.
+#![tactic(auto)]
+
 #[cfg(test)]
 mod answers;
 #[cfg(test)]

@@ -1,7 +1,7 @@
 //! Question 8: fields, trees and rendered names keep their limits.
 use crate::answers::{first, has_counts, opened, refused_with, short_names, unqualified};
 use book::declaration::Book;
-use book::tables::OpenBook;
+use book::opened::OpenBook;
 use plan::fault::Fault;
 use std::test::Fail;
 use terms::node::{ExprId, PlanId};

@@ -1,7 +1,7 @@
 //! Question 4: totals stand among the totals of an Aggregate, and nothing else does.
 use crate::answers::{TOTAL, has_counts, opened, refused_with, unqualified};
-use book::node::Key;
 use std::test::Fail;
+use tables::node::Key;
 use terms::node::{ExprId, PlanId};
 
 #[test]

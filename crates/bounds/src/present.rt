@@ -1,7 +1,7 @@
 //! Question 1: what a call names by number stands in the book.
 use crate::answers::{TOTAL, has_counts, opened, refused_with, unqualified};
-use book::node::Key;
 use std::test::Fail;
+use tables::node::Key;
 use terms::node::{ExprId, PlanId};
 
 #[test]

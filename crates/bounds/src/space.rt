@@ -1,8 +1,8 @@
 //! Question 9: each table has room to its last place, and none after it.
 use crate::answers::{first, has_counts, opened, refused_with, short_names, unqualified};
 use book::declaration::Book;
-use book::node::Key;
 use std::test::Fail;
+use tables::node::Key;
 use terms::node::{ExprId, PlanId};
 
 #[test]

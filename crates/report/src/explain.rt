@@ -1,8 +1,8 @@
 //! A plan as an indented tree, each node with its fields and its origin.
-use book::node::{PlanNode, PlanRecord, Run};
-use book::tables::OpenBook;
+use book::opened::OpenBook;
 use std::io;
 use std::str::from_utf8;
+use tables::node::{PlanNode, PlanRecord, Run};
 use terms::node::{ExprId, ExprNode, Literal, PlanId, Qualifier, Span};
 
 fn show_word(rt: &HostRuntime, book: &OpenBook, span: Span) -> io::Result<()> {

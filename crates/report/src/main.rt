@@ -1,6 +1,8 @@
 //! Builds a broadcaster's report in a book, and prints each call with its answer, the plan, and three refusals.
+#![tactic(auto)]
+
 use book::declaration::Book;
-use book::tables::OpenBook;
+use book::opened::OpenBook;
 use explain::explain;
 use std::io;
 use telling::{declared, expression, node, unqualified};
