@@ -4,7 +4,7 @@ use lib.ListN.{get_or-append, length-map}
 use lib.Seq.{get_or-append_seam, map-set}
 use mir.Facts.{and_yes}
 use Rattle.std.proofs.ByRecursion.{All-append, All-get_or, All-map, All-weaker}
-use Rattle.std.specs.List.{AllByRecursion as All}
+use Rattle.std.specs.List.{AllByRecursion}
 use Rattle.plan.specs.Calls.Answer.{made, refused, unchanged}
 use Rattle.plan.specs.Calls.{Answer, Call, Made, asked, below, new_inputs, new_plans, new_trees}
 use Rattle.plan.specs.Calls.Call.{make_aggregate, make_alias, make_call, make_filter, make_join, make_limit, make_literal, make_projection, make_reference, make_sort, make_subquery_alias, make_table, make_union}
@@ -41,7 +41,7 @@ use Rattle.rewriting.specs.Outlay.{start_at}
 
 -- what every call keeps
 pub record Sound (s : Model) : Type 0 where
-  pub good : All (λ n. Good s.functions n.tree) s.plans
+  pub good : AllByRecursion (λ n. Good s.functions n.tree) s.plans
   pub low : (i : ℕ) → i < count_of s → origin_at s i < count_of s
   pub alike : (i j : ℕ) → i < count_of s → j < count_of s → origin_at s i ≡ origin_at s j → Same s.functions (tree_at s i) (tree_at s j)
   pub long : length s.inputs ≡ count_of s
@@ -57,7 +57,7 @@ pub record Growth (s : Model) (nodes : List Node) (numbers : List (List ℕ)) (s
   pub plans : s'.plans ≡ s.plans ++ nodes
   pub inputs : s'.inputs ≡ s.inputs ++ numbers
   pub long : length numbers ≡ length nodes
-  pub good : All (λ n. Good s.functions n.tree) nodes
+  pub good : AllByRecursion (λ n. Good s.functions n.tree) nodes
   pub from : (k : ℕ) → k < length nodes → From s k (get_or nodes k no_node)
   pub stands : (k : ℕ) → count_of s ≤ k → k < count_of s' → Standing s'.plans k (inputs_at s' k) (tree_at s' k)
 
@@ -126,7 +126,7 @@ module _ (s s' : Model) (nodes : List Node) (numbers : List (List ℕ)) (kept : 
   alike-new i j e (inr a) (inr b) = let p : i ≡ j = (let x = a.1 in let y = b.1 in omega arith) in subst (λ (k : ℕ). Same F (tree_at s' i) (tree_at s' k)) p (same_refl (tree_at s' i))
 
   -- an old node stands on what it stood on
-  trees-same : (i : ℕ) → i < count_of s → (ns : List ℕ) → All (λ k. k < i) ns
+  trees-same : (i : ℕ) → i < count_of s → (ns : List ℕ) → AllByRecursion (λ k. k < i) ns
       → map (λ k. (get_or s.plans k no_node).tree) ns ≡ map (λ k. (get_or s'.plans k no_node).tree) ns
   trees-same i h [] a = refl
   trees-same i h (n ∷ ns) a =
@@ -188,7 +188,7 @@ added-longer s s' R i r h g e a = record {
 
 -- one node more, which stands on nodes that are there
 module _ (s s' : Model) (n : Node) (ns : List ℕ) (long : length s.inputs ≡ count_of s) (x : s'.plans ≡ s.plans ++ n ∷ []) (y : s'.inputs ≡ s.inputs ++ ns ∷ []) where
-  trees-are : (ks : List ℕ) → All (λ k. k < count_of s) ks → map (tree_at s) ks ≡ map (λ k. (get_or s'.plans k no_node).tree) ks
+  trees-are : (ks : List ℕ) → AllByRecursion (λ k. k < count_of s) ks → map (tree_at s) ks ≡ map (λ k. (get_or s'.plans k no_node).tree) ks
   trees-are [] h = refl
   trees-are (k ∷ ks) h =
       let p : get_or s'.plans k no_node ≡ node_at s k = ap (λ (l : List Node). get_or l k no_node) x ∙ get_or-append s.plans (n ∷ []) no_node k h.0 in
@@ -196,7 +196,7 @@ module _ (s s' : Model) (n : Node) (ns : List ℕ) (long : length s.inputs ≡ c
       let r = ap (λ (n : Node). n.tree) p in
       cc
 
-  one-stands : All (λ k. k < count_of s) ns → inputs_of n.tree ≡ map (tree_at s) ns → (j : ℕ) → count_of s ≤ j → j < count_of s' → Standing s'.plans j (inputs_at s' j) (tree_at s' j)
+  one-stands : AllByRecursion (λ k. k < count_of s) ns → inputs_of n.tree ≡ map (tree_at s) ns → (j : ℕ) → count_of s ≤ j → j < count_of s' → Standing s'.plans j (inputs_at s' j) (tree_at s' j)
   one-stands h e j c d =
       let m = ap length x ∙ length-append s.plans (n ∷ []) in
       let z : j ≡ count_of s + 0 = omega arith in
@@ -306,7 +306,7 @@ swap-adds s s' i k j r kept a = record {
   stand = one-stands s s' new (set (inputs_at s i) k j) kept.long a.plans a.inputs (all_set (inputs_at s i) k (All-weaker _ _ (λ n l. omega (arith, hi)) (inputs_at s i) (kept.stands i hi).0)) stood;
 }
   where
-    h : All (λ q. T q.1) (swap_asked s i k j)
+    h : AllByRecursion (λ q. T q.1) (swap_asked s i k j)
     h = all_yes (swap_asked s i k j) (first-yes (swap_asked s i k j) ((SpaceQuestion, fits s.used (swap_outlay s i k j)) ∷ []) a.accepted)
 
     b : T (below (count_of s) i) × T (below (count_of s) j)
@@ -327,7 +327,7 @@ swap-adds s s' i k j r kept a = record {
     l : k < length (inputs_of (tree_at s i))
     l = let hl = hk in let w = ap length (kept.stands i hi).1 ∙ length-map (inputs_at s i) _ in omega arith
 
-    all_set : (ns : List ℕ) (n : ℕ) → All (λ x. x < count_of s) ns → All (λ x. x < count_of s) (set ns n j)
+    all_set : (ns : List ℕ) (n : ℕ) → AllByRecursion (λ x. x < count_of s) ns → AllByRecursion (λ x. x < count_of s) (set ns n j)
     all_set [] n q = tt
     all_set (x ∷ xs) zero q = (hj, q.1)
     all_set (x ∷ xs) (suc n) q = (q.0, all_set xs n q.1)
@@ -412,7 +412,7 @@ law-agree F text used ss s t =
     record { good = good-node s k; same = k.alike; resolved = λ i h. good-resolved s.functions (tree_at s i) (good-node s k i h) }
 
 -- the names of every node's fields are among the names of the book
-node-names : (F : Functions) (Q : Name → Type 0) (ns : List Node) → All Q (node_names F ns) → All (λ n. All (λ f. Q f.name) (fields_of F n.tree)) ns
+node-names : (F : Functions) (Q : Name → Type 0) (ns : List Node) → AllByRecursion Q (node_names F ns) → AllByRecursion (λ n. AllByRecursion (λ f. Q f.name) (fields_of F n.tree)) ns
 unfolding node_names
 node-names F Q [] h = tt
 node-names F Q (n ∷ ns) h =
@@ -420,18 +420,18 @@ node-names F Q (n ∷ ns) h =
     let b = all_split Q (plan_names n.tree) (node_names F ns) a.1 in
     (all_of_map Q (λ f. f.name) (fields_of F n.tree) a.0, node-names F Q ns b.1)
 
-lower-names : (m : Model) → All (λ x. number_of x < next_number m) (book_names m)
+lower-names : (m : Model) → AllByRecursion (λ x. number_of x < next_number m) (book_names m)
 unfolding next_number
 lower-names m = All-weaker _ _ (λ x h. suc-le-suc h) (book_names m) (highest-above 99999999 (book_names m))
 
-fields-lower : (s : Model) → All (λ n. All (λ f. number_of f.name < next_number s) (fields_of s.functions n.tree)) s.plans
+fields-lower : (s : Model) → AllByRecursion (λ n. AllByRecursion (λ f. number_of f.name < next_number s) (fields_of s.functions n.tree)) s.plans
 unfolding book_names
 fields-lower s =
     node-names s.functions (λ x. number_of x < next_number s) s.plans
     (all_split _ (list_names s.exprs) (node_names s.functions s.plans) (lower-names s)).1
 
 -- and so are those of its inputs' fields
-input-fields : (F : Functions) (Q : Field → Type 0) (P : Plan) → All (λ p. All Q (fields_of F p)) (inputs_of P) → All Q (input_fields F P)
+input-fields : (F : Functions) (Q : Field → Type 0) (P : Plan) → AllByRecursion (λ p. AllByRecursion Q (fields_of F p)) (inputs_of P) → AllByRecursion Q (input_fields F P)
 input-fields F Q (table k q ns) h = tt
 input-fields F Q (projection es i) h = h.0
 input-fields F Q (filter e i) h = h.0
@@ -442,13 +442,13 @@ input-fields F Q (join k cs l r) h = All-append Q (fields_of F l) (fields_of F r
 input-fields F Q (subquery_alias n i) h = h.0
 input-fields F Q (union i is) h = h.0
 
-inputs-lower : (s : Model) (i : ℕ) → Sound s → i < count_of s → All (λ f. number_of f.name < next_number s) (input_fields s.functions (tree_at s i))
+inputs-lower : (s : Model) (i : ℕ) → Sound s → i < count_of s → AllByRecursion (λ f. number_of f.name < next_number s) (input_fields s.functions (tree_at s i))
 inputs-lower s i kept h =
     let a = kept.stands i h in
-    input-fields s.functions _ (tree_at s i) (subst (All Q) (sym a.1) (All-map Q _ (inputs_at s i) (All-weaker _ _ (λ k l. at k l) (inputs_at s i) a.0)))
+    input-fields s.functions _ (tree_at s i) (subst (AllByRecursion Q) (sym a.1) (All-map Q _ (inputs_at s i) (All-weaker _ _ (λ k l. at k l) (inputs_at s i) a.0)))
   where
     Q : Plan → Type 0
-    Q p = All (λ f. number_of f.name < next_number s) (fields_of s.functions p)
+    Q p = AllByRecursion (λ f. number_of f.name < next_number s) (fields_of s.functions p)
 
     at : (k : ℕ) → k < i → Q (tree_at s k)
     at k l = All-get_or (λ n. Q n.tree) s.plans k no_node (omega arith) (fields-lower s)

@@ -3,7 +3,7 @@ use Rattle.std.proofs.Common.{◌≡◌, ℕ, ◌<◌, Bool, true, false, cond, 
 use lib.ListN.{get_or-map}
 use mir.Facts.{and_yes, yes_and}
 use Rattle.std.proofs.ByRecursion.{All-get_or}
-use Rattle.std.specs.List.{AllByRecursion as All}
+use Rattle.std.specs.List.{AllByRecursion}
 use Rattle.plan.specs.Calls.{Call, all_below, asked, below, between, equal_widths, new_inputs, new_trees}
 use Rattle.plan.specs.Calls.Call.{make_aggregate, make_alias, make_call, make_filter, make_join, make_limit, make_literal, make_projection, make_reference, make_sort, make_subquery_alias, make_table, make_union}
 use Rattle.plan.specs.Faults.{Asked, first_no}
@@ -16,11 +16,11 @@ use Rattle.rows.specs.Standing.{Good, Goods, Passed, wide_all}
 use Rattle.plan.specs.Swapping.{inputs_of, plan_list}
 
 -- every question was answered yes
-pub all_yes : (qs : List Asked) → first_no qs ≡ None → All (λ a. T a.1) qs
+pub all_yes : (qs : List Asked) → first_no qs ≡ None → AllByRecursion (λ a. T a.1) qs
 all_yes [] p = tt
 all_yes (a ∷ qs) p = go a.1 p (λ q. all_yes qs q)
   where
-    go : (b : Bool) → cond b (first_no qs) (Some a.0) ≡ None → (first_no qs ≡ None → All (λ a. T a.1) qs) → T b × All (λ a. T a.1) qs
+    go : (b : Bool) → cond b (first_no qs) (Some a.0) ≡ None → (first_no qs ≡ None → AllByRecursion (λ a. T a.1) qs) → T b × AllByRecursion (λ a. T a.1) qs
     go true p f = (tt, f p)
     go false p f = let z : ◌≡◌ {A = ℕ} 0 1 = cc in absurd (omega arith)
 
@@ -33,10 +33,10 @@ first-yes (a ∷ qs) rest p = go a.1 p (λ q. first-yes qs rest q)
     go true p f = f p
     go false p f = p
 
-pub passed : (F : Functions) (p : Plan) → All (λ a. T a.1) (node_asked F p) → Passed F p
+pub passed : (F : Functions) (p : Plan) → AllByRecursion (λ a. T a.1) (node_asked F p) → Passed F p
 passed F p h = record { resolves = h.0; lists = h.1.0; limits = h.1.1.0 }
 
-module _ (s : Model) (good : All (λ n. Good s.functions n.tree) s.plans) where
+module _ (s : Model) (good : AllByRecursion (λ n. Good s.functions n.tree) s.plans) where
   abbrev F : Functions
   F = s.functions
 
@@ -53,7 +53,7 @@ module _ (s : Model) (good : All (λ n. Good s.functions n.tree) s.plans) where
   good-at : (i : ℕ) → T (below (count_of s) i) → Good F (plan_in (trees_of m) i)
   good-at i h = rw (plan-is i) (All-get_or (λ n. Good F n.tree) m.plans i no_node (below-lt (count_of s) i h) good)
 
-  all-below : (is : List ℕ) → T (all_below (count_of s) is) → All (λ k. k < count_of s) is
+  all-below : (is : List ℕ) → T (all_below (count_of s) is) → AllByRecursion (λ k. k < count_of s) is
   all-below [] h = tt
   all-below (i ∷ is) h = let a = and_yes (below (count_of s) i) (all_below (count_of s) is) h in (below-lt (count_of s) i a.0, all-below is a.1)
 
@@ -74,24 +74,24 @@ module _ (s : Model) (good : All (λ n. Good s.functions n.tree) s.plans) where
 
   -- what a call makes, if it makes a node
   abbrev pub GoodAll : List Plan → Type 0
-  GoodAll ps = All (Good F) ps
+  GoodAll ps = AllByRecursion (Good F) ps
 
   abbrev pub StandAll : List Plan → List (List ℕ) → Type 0
   StandAll [] [] = Unit {0}
   StandAll [] (ns ∷ nss) = ⊥
   StandAll (p ∷ ps) [] = ⊥
-  StandAll (p ∷ ps) (ns ∷ nss) = (All (λ k. k < count_of s) ns × (inputs_of p ≡ map (tree_at s) ns)) × StandAll ps nss
+  StandAll (p ∷ ps) (ns ∷ nss) = (AllByRecursion (λ k. k < count_of s) ns × (inputs_of p ≡ map (tree_at s) ns)) × StandAll ps nss
 
   abbrev pub Fine : Call → Type 0
   Fine c = GoodAll (new_trees m c) × StandAll (new_trees m c) (new_inputs c)
 
-  one_below : (i : ℕ) → T (below (count_of s) i) → All (λ k. k < count_of s) (i ∷ [])
+  one_below : (i : ℕ) → T (below (count_of s) i) → AllByRecursion (λ k. k < count_of s) (i ∷ [])
   one_below i h = (below-lt (count_of s) i h, tt)
 
   one-is : (i : ℕ) → ◌≡◌ {A = List Plan} (plan_in (trees_of m) i ∷ []) (tree_at s i ∷ [])
   one-is i = ap (λ (p : Plan). p ∷ []) (plan-is i)
 
-  unite : (is : List ℕ) → All (λ a. T a.1) (asked m (make_union is)) → Fine (make_union is)
+  unite : (is : List ℕ) → AllByRecursion (λ a. T a.1) (asked m (make_union is)) → Fine (make_union is)
   unite [] h = absurd h.1.0
   unite (i ∷ is) h =
       let a = and_yes (below (count_of s) i) (all_below (count_of s) is) h.0 in

@@ -3,7 +3,7 @@ use Rattle.std.proofs.Common.{◌≡◌, ℕ, suc, ◌<◌, Bool, true, false, c
 use lib.ListN.{get_or-map, length-map}
 use mir.Facts.{and_yes}
 use Rattle.std.proofs.ByRecursion.{all_has_itself, All-map, All-weaker, has_append_left, has_push}
-use Rattle.std.specs.List.{ContainsAt as Has, AllByRecursion as All}
+use Rattle.std.specs.List.{ContainsAt as Has, AllByRecursion}
 use Rattle.plan.specs.Fields.{any, lawful}
 use Rattle.plan.specs.Functions.{Functions}
 use Rattle.plan.specs.Plans.{Key, Plan, fields_of}
@@ -35,12 +35,12 @@ pub record Holds (F : Functions) (R : Plan) (σ : List ℕ) (P : Plan) (x : Fiel
   pub place : ℕ
   pub inside : place < length (fields_of F R)
   pub meant : T (may_mean x (at (fields_of F R) place))
-  pub value : (W : Fitting F) → All (λ row. get_or row place null ≡ eval W (fields_of F P) (pick σ row) e) (rows W R)
+  pub value : (W : Fitting F) → AllByRecursion (λ row. get_or row place null ≡ eval W (fields_of F P) (pick σ row) e) (rows W R)
 
 pub record Carries (F : Functions) (R P : Plan) (ps : List Pair) : Type 0 where
   pub σ : List ℕ
   pub stands : Stands F σ R P
-  pub holds : All (λ p. Holds F R σ P (unqualified_field p.1) p.0) ps
+  pub holds : AllByRecursion (λ p. Holds F R σ P (unqualified_field p.1) p.0) ps
 
 module _ {F : Functions} where
   pub holds-through : {σ τ : List ℕ} {R Q P : Plan} {x : Field} {e : Expr} → Stands F σ R Q → Covers (fields_of F Q) τ (fields_of F P) → Holds F Q τ P x e → Holds F R (through σ τ) P x e
@@ -74,7 +74,7 @@ module _ {F : Functions} where
       holds = All-weaker _ _ (λ p h. record { place = h.place; inside = h.inside; meant = h.meant; value = λ W. all_keep _ _ (rows W R) (h.value W) }) ps c.holds;
     }
 
-    pub carries-sort : (ks : List Key) → All (λ k. Known (fields_of F P) k.by) ks → All (λ k. Known (fields_of F R) k.by) ks → Carries F (sort ks R) (sort ks P) ps
+    pub carries-sort : (ks : List Key) → AllByRecursion (λ k. Known (fields_of F P) k.by) ks → AllByRecursion (λ k. Known (fields_of F R) k.by) ks → Carries F (sort ks R) (sort ks P) ps
     unfolding rows_of
     carries-sort ks kp kr = record {
       σ = c.σ;
@@ -104,7 +104,7 @@ module _ {F : Functions} where
 
 -- over any input: the pairs, then every field
 module _ (F : Functions) (I : Plan) (lawful : Lawful (fields_of F I)) (ps : List Pair) where
-  fresh-has : All (λ p. Has (map aliased ps ++ refs (fields_of F I)) (aliased p)) ps
+  fresh-has : AllByRecursion (λ p. Has (map aliased ps ++ refs (fields_of F I)) (aliased p)) ps
   fresh-has = All-weaker _ _ (λ p h. has_append_left (map aliased ps) (refs (fields_of F I)) (aliased p) h) ps (all_of_map (Has (map aliased ps)) aliased ps (all_has_itself (map aliased ps)))
 
   fresh-value : (W : Fitting F) (row : Row) (p : Pair) (h : Has (map aliased ps ++ refs (fields_of F I)) (aliased p)) → Wide (length (fields_of F I)) row
@@ -215,7 +215,7 @@ module _ (F : Functions) (es rest : List Expr) (I : Plan) where
         ∙ sym (replace-eval W (fields_of F I) es row p.0) ∙ sym (ap (λ (r : Row). eval W (map (field_of F) es) r p.0) (back-row W row))));
   }
 
-  pub carries-more : (ps : List Pair) → All (λ p. Like (es ++ rest) (alias (replace_cols F es p.0) (unqualified_field p.1))) ps → Carries F (projection (es ++ rest) I) (projection es I) ps
+  pub carries-more : (ps : List Pair) → AllByRecursion (λ p. Like (es ++ rest) (alias (replace_cols F es p.0) (unqualified_field p.1))) ps → Carries F (projection (es ++ rest) I) (projection es I) ps
   carries-more ps h = record { σ = _; stands = stands-more; holds = All-weaker _ _ more-holds ps h }
 
 -- the merge adds behind, and has every pair
@@ -248,7 +248,7 @@ add-pair a acc = go (any (same_expr a) acc) (λ h. has-any a acc h)
     go false f = ((a ∷ [], refl), (a, has_push acc a, inl refl))
 
 add-pairs : (F : Functions) (es : List Expr) (ps : List Pair) (acc : List Expr)
-    → Grown acc (add_pairs F es ps acc) × All (λ p. Like (add_pairs F es ps acc) (alias (replace_cols F es p.0) (unqualified_field p.1))) ps
+    → Grown acc (add_pairs F es ps acc) × AllByRecursion (λ p. Like (add_pairs F es ps acc) (alias (replace_cols F es p.0) (unqualified_field p.1))) ps
 unfolding add_pairs
 add-pairs F es [] acc = (grown-self acc, tt)
 add-pairs F es (p ∷ ps) acc =
@@ -286,4 +286,4 @@ module _ {F : Functions} where
       let c = add-columns F es cs (add_pairs F es ps es) in
       let h = All-weaker _ _ (λ p k. grown-has (add_pairs F es ps es) (merged F es ps cs) (alias (replace_cols F es p.0) (unqualified_field p.1)) c k) ps a.1 in
       subst (λ (l : List Expr). Carries F (projection l I) (projection es I) ps) (sym g.1) (carries-more F es g.0 I ps
-      (subst (λ (l : List Expr). All (λ p. Like l (alias (replace_cols F es p.0) (unqualified_field p.1))) ps) g.1 h))
+      (subst (λ (l : List Expr). AllByRecursion (λ p. Like l (alias (replace_cols F es p.0) (unqualified_field p.1))) ps) g.1 h))

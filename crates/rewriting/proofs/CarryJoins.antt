@@ -3,7 +3,7 @@ use Rattle.std.proofs.Common.{◌≡◌, ℕ, ◌+◌, ◌<◌, Bool, T, List, [
 use lib.ListN.{get_or-append, length-map}
 use mir.Facts.{and_yes}
 use Rattle.std.proofs.ByRecursion.{All-append}
-use Rattle.std.specs.List.{AllByRecursion as All}
+use Rattle.std.specs.List.{AllByRecursion}
 use Rattle.plan.specs.Functions.{Functions, null_keeping}
 use Rattle.plan.specs.Plans.{Plan, fields_of, shown, shows_left, shows_right}
 use Rattle.plan.specs.Plans.Plan.{join}
@@ -104,7 +104,7 @@ module _ {F : Functions} where
       left-null W k = get_or-nulls (length (fields_of F RL)) h.place ∙ sym (rw (pick-nulls σ (length (fields_of F RL))) (keeps_null W (fields_of F PL) (length σ) e k))
 
       both_left : (k : JoinKind) → fields_of F (join k cs RL RR) ≡ fields_of F RL ++ fields_of F RR → (ρ : List ℕ)
-          → ((W : Fitting F) → All (Fit W h.place (fields_of F (join k cs PL PR)) ρ) (rows W (join k cs RL RR))) → Holds F (join k cs RL RR) ρ (join k cs PL PR) x e
+          → ((W : Fitting F) → AllByRecursion (Fit W h.place (fields_of F (join k cs PL PR)) ρ) (rows W (join k cs RL RR))) → Holds F (join k cs RL RR) ρ (join k cs PL PR) x e
       both_left k p ρ v =
           let long = length-append (fields_of F RL) (fields_of F RR) in
           let lt = h.inside in
@@ -121,21 +121,21 @@ module _ {F : Functions} where
           m : Fitting F → Row → Row → Bool
           m W = matches W.world (fields_of F RL ++ fields_of F RR) cs
 
-          oks : (W : Fitting F) → All (Ok W) (rows W RL)
+          oks : (W : Fitting F) → AllByRecursion (Ok W) (rows W RL)
           oks W = all_two (Wide (length (fields_of F RL))) (Fit W h.place (fields_of F PL) σ) (Ok W) (λ l p q. (p, q)) (rows W RL) (rows-wide W RL) (h.value W)
 
           Z : Fitting F → Row → Type 0
           Z W = Fit W h.place (fields_of F PL ++ fields_of F PR) (σ ++ shift (length (fields_of F RL)) τ)
 
-          the_pairs : (W : Fitting F) → Known (fields_of F PL ++ fields_of F PR) e → All (Z W) (pairs (m W) (rows W RL) (rows W RR))
+          the_pairs : (W : Fitting F) → Known (fields_of F PL ++ fields_of F PR) e → AllByRecursion (Z W) (pairs (m W) (rows W RL) (rows W RR))
           the_pairs W j = all-pairs _ (Ok W) (Wide (length (fields_of F RR))) (m W) (rows W RL) (rows W RR) (oks W) (rows-wide W RR) (λ l r o w. left-fit W j l r o)
 
-          the_padded : (W : Fitting F) → Known (fields_of F PL ++ fields_of F PR) e → All (Z W) (pairs_padded (m W) (length (fields_of F RR)) (rows W RL) (rows W RR))
+          the_padded : (W : Fitting F) → Known (fields_of F PL ++ fields_of F PR) e → AllByRecursion (Z W) (pairs_padded (m W) (length (fields_of F RR)) (rows W RL) (rows W RR))
           the_padded W j =
               all-pairs_padded _ (Ok W) (Wide (length (fields_of F RR))) (m W) (rows W RL) (rows W RR) (oks W) (rows-wide W RR) (length (fields_of F RR))
               (λ l r o w. left-fit W j l r o) (λ l o. left-fit W j l (nulls (length (fields_of F RR))) o)
 
-          the_lone : (W : Fitting F) → Known (fields_of F PL ++ fields_of F PR) e → T (null_keeping F e) → All (Z W) (lone (m W) (length (fields_of F RL)) (rows W RL) (rows W RR))
+          the_lone : (W : Fitting F) → Known (fields_of F PL ++ fields_of F PR) e → T (null_keeping F e) → AllByRecursion (Z W) (lone (m W) (length (fields_of F RL)) (rows W RL) (rows W RR))
           the_lone W j n =
               all-lone _ (Ok W) (Wide (length (fields_of F RR))) (m W) (rows W RL) (rows W RR) (oks W) (rows-wide W RR) (length (fields_of F RL))
               (λ r w. left-fit W j (nulls (length (fields_of F RL))) r (nulls-wide (length (fields_of F RL)), left-null W n))
@@ -174,7 +174,7 @@ module _ {F : Functions} where
       right-null W k = get_or-nulls (length (fields_of F RR)) h.place ∙ sym (rw (pick-nulls τ (length (fields_of F RR))) (keeps_null W (fields_of F PR) (length τ) e k))
 
       both_right : (k : JoinKind) → fields_of F (join k cs RL RR) ≡ fields_of F RL ++ fields_of F RR → (ρ : List ℕ)
-          → ((W : Fitting F) → All (Fit W (length (fields_of F RL) + h.place) (fields_of F (join k cs PL PR)) ρ) (rows W (join k cs RL RR))) → Holds F (join k cs RL RR) ρ (join k cs PL PR) x e
+          → ((W : Fitting F) → AllByRecursion (Fit W (length (fields_of F RL) + h.place) (fields_of F (join k cs PL PR)) ρ) (rows W (join k cs RL RR))) → Holds F (join k cs RL RR) ρ (join k cs PL PR) x e
       both_right k p ρ v =
           let long = length-append (fields_of F RL) (fields_of F RR) in
           let lt = h.inside in
@@ -191,21 +191,21 @@ module _ {F : Functions} where
           m : Fitting F → Row → Row → Bool
           m W = matches W.world (fields_of F RL ++ fields_of F RR) cs
 
-          oks : (W : Fitting F) → All (Ok W) (rows W RR)
+          oks : (W : Fitting F) → AllByRecursion (Ok W) (rows W RR)
           oks W = all_two (Wide (length (fields_of F RR))) (Fit W h.place (fields_of F PR) τ) (Ok W) (λ l p q. (p, q)) (rows W RR) (rows-wide W RR) (h.value W)
 
           Z : Fitting F → Row → Type 0
           Z W = Fit W (length (fields_of F RL) + h.place) (fields_of F PL ++ fields_of F PR) (σ ++ shift (length (fields_of F RL)) τ)
 
-          the_pairs : (W : Fitting F) → Known (fields_of F PL ++ fields_of F PR) e → All (Z W) (pairs (m W) (rows W RL) (rows W RR))
+          the_pairs : (W : Fitting F) → Known (fields_of F PL ++ fields_of F PR) e → AllByRecursion (Z W) (pairs (m W) (rows W RL) (rows W RR))
           the_pairs W j = all-pairs _ (Wide (length (fields_of F RL))) (Ok W) (m W) (rows W RL) (rows W RR) (rows-wide W RL) (oks W) (λ l r w o. right-fit W j l r w o)
 
-          the_padded : (W : Fitting F) → Known (fields_of F PL ++ fields_of F PR) e → T (null_keeping F e) → All (Z W) (pairs_padded (m W) (length (fields_of F RR)) (rows W RL) (rows W RR))
+          the_padded : (W : Fitting F) → Known (fields_of F PL ++ fields_of F PR) e → T (null_keeping F e) → AllByRecursion (Z W) (pairs_padded (m W) (length (fields_of F RR)) (rows W RL) (rows W RR))
           the_padded W j n =
               all-pairs_padded _ (Wide (length (fields_of F RL))) (Ok W) (m W) (rows W RL) (rows W RR) (rows-wide W RL) (oks W) (length (fields_of F RR))
               (λ l r w o. right-fit W j l r w o) (λ l w. right-fit W j l (nulls (length (fields_of F RR))) w (nulls-wide (length (fields_of F RR)), right-null W n))
 
-          the_lone : (W : Fitting F) → Known (fields_of F PL ++ fields_of F PR) e → All (Z W) (lone (m W) (length (fields_of F RL)) (rows W RL) (rows W RR))
+          the_lone : (W : Fitting F) → Known (fields_of F PL ++ fields_of F PR) e → AllByRecursion (Z W) (lone (m W) (length (fields_of F RL)) (rows W RL) (rows W RR))
           the_lone W j =
               all-lone _ (Wide (length (fields_of F RL))) (Ok W) (m W) (rows W RL) (rows W RR) (rows-wide W RL) (oks W) (length (fields_of F RL))
               (λ r o. right-fit W j (nulls (length (fields_of F RL))) r (nulls-wide (length (fields_of F RL))) o)

@@ -3,7 +3,7 @@ use Rattle.std.proofs.Common.{◌≡◌, ℕ, ◌+◌, ◌<◌, Bool, true, fals
 use lib.ListN.{get_or-append}
 use mir.Facts.{yes_and}
 use Rattle.std.proofs.ByRecursion.{all-has}
-use Rattle.std.specs.List.{AllByRecursion as All}
+use Rattle.std.specs.List.{AllByRecursion}
 use Rattle.plan.specs.Faults.{fault}
 use Rattle.plan.specs.Functions.{Functions}
 use Rattle.plan.specs.Names.{Name}
@@ -126,7 +126,7 @@ when-new Z g n o h = go g.full g.new
 
 module _ {F : Functions} where
   -- the entries of a walk over one input, in a plan that carries its pairs
-  pub here-held : {R P : Plan} (g : Extractor) → All (Here (fields_of F P)) g.entries → (c : Carries F R P (pairs_of one g.entries)) (x : Field) (e : Expr) → Held g.entries x e → Holds F R c.σ P x e
+  pub here-held : {R P : Plan} (g : Extractor) → AllByRecursion (Here (fields_of F P)) g.entries → (c : Carries F R P (pairs_of one g.entries)) (x : Field) (e : Expr) → Held g.entries x e → Holds F R c.σ P x e
   here-held g h c x e k = carries-held one g.entries c x e k (all-has _ g.entries k.0 h k.1).0
 
   stands-filter-carry : {R P : Plan} {σ : List ℕ} (s : Stands F σ R P) (e e' : Expr) → Swap (Holds F R σ P) e e' → Known (fields_of F P) e → Known (fields_of F R) e' → Stands F σ (filter e' R) (filter e P)
@@ -142,7 +142,7 @@ unfolding extract_from_plan
 filter-keeps F e i n g =
     let w = routing_extract F (find_sole_input (fields_of F i)) e (empty_extractor n.next) in
     let a = walk_after F (find_sole_input (fields_of F i)) (fields_of F i) (Here (fields_of F i)) (entry_here F (fields_of F i)) e (empty_extractor n.next) (filter-known e i g.0) in
-    let h : All (Here (fields_of F i)) w.1.entries = a.1.keeps (unfold empty_extractor in tt) in
+    let h : AllByRecursion (Here (fields_of F i)) w.1.entries = a.1.keeps (unfold empty_extractor in tt) in
     when-new (Keeping F (filter e i)) w.1 _ _ (then-gives _ (Keeping F (filter e i)) _ _ (extracted-placed F i g.1 _ _ _)
     (λ r m b. rebuilt-wide F (filter e i) (filter w.0 r) m (λ x. (
       (x, b.bears.good),
@@ -171,7 +171,7 @@ Carried F W R σ P row = (e e' : Expr) → Swap (Holds F R σ P) e e' → Known 
 
 module _ {F : Functions} where
   keys-row : (W : Fitting F) (R : Plan) (σ : List ℕ) (P : Plan) (row : Row) → Carried F W R σ P row → (ks js : List Key) → SwapKeys (Holds F R σ P) ks js
-      → All (λ k. Known (fields_of F P) k.by) ks → All (λ k. Known (fields_of F R) k.by) js
+      → AllByRecursion (λ k. Known (fields_of F P) k.by) ks → AllByRecursion (λ k. Known (fields_of F R) k.by) js
       → map (λ k. eval W (fields_of F P) (pick σ row) k.by) ks ≡ map (λ k. eval W (fields_of F R) row k.by) js
   keys-row W R σ P row f [] [] s kp kr = refl
   keys-row W R σ P row f [] (d ∷ ds) s kp kr = absurd s
@@ -182,7 +182,7 @@ module _ {F : Functions} where
       cc
 
   stands-sort-carry : {R P : Plan} {σ : List ℕ} (s : Stands F σ R P) (ks js : List Key) → SwapKeys (Holds F R σ P) ks js
-      → All (λ k. Known (fields_of F P) k.by) ks → All (λ k. Known (fields_of F R) k.by) js → Stands F σ (sort js R) (sort ks P)
+      → AllByRecursion (λ k. Known (fields_of F P) k.by) ks → AllByRecursion (λ k. Known (fields_of F R) k.by) js → Stands F σ (sort js R) (sort ks P)
   unfolding rows_of key_values
   stands-sort-carry {R} {P} {σ} s ks js w kp kr = record {
     covers = s.covers;
@@ -200,7 +200,7 @@ unfolding extract_from_plan
 sort-keeps F ks i n g =
     let w = routing_extract_keys F (find_sole_input (fields_of F i)) ks (empty_extractor n.next) in
     let a = keys-after F (find_sole_input (fields_of F i)) (fields_of F i) (Here (fields_of F i)) (entry_here F (fields_of F i)) ks (empty_extractor n.next) (sort-known ks i g.0) in
-    let h : All (Here (fields_of F i)) w.1.entries = a.1.keeps (unfold empty_extractor in tt) in
+    let h : AllByRecursion (Here (fields_of F i)) w.1.entries = a.1.keeps (unfold empty_extractor in tt) in
     when-new (Keeping F (sort ks i)) w.1 _ _ (then-gives _ (Keeping F (sort ks i)) _ _ (extracted-placed F i g.1 _ _ _)
     (λ r m b. rebuilt-wide F (sort ks i) (sort w.0 r) m (λ x. (
       (x, b.bears.good),
@@ -231,7 +231,7 @@ owner-side false true s p = inr (cc, tt)
 owner-side false false s p = let z : ◌≡◌ {A = ℕ} 0 1 = cc in absurd (omega arith)
 
 module _ {F : Functions} where
-  held-beside : (x y l r : Plan) (ds : List Entry) → All (Sided (fields_of F l) (fields_of F r)) ds → (cx : Carries F x l (pairs_of one ds)) (cy : Carries F y r (pairs_of two ds))
+  held-beside : (x y l r : Plan) (ds : List Entry) → AllByRecursion (Sided (fields_of F l) (fields_of F r)) ds → (cx : Carries F x l (pairs_of one ds)) (cy : Carries F y r (pairs_of two ds))
       → (f : Field) (e : Expr) → Held ds f e → Beside F x y l r cx.σ cy.σ f e
   unfolding Sided find_owning_input
   held-beside x y l r ds h cx cy f e k =
@@ -248,7 +248,7 @@ module _ {F : Functions} where
 
   matches-carry : (W : Fitting F) (ps rs : List Field) (l r l' r' : Row) (K : Field → Expr → Type 0)
       → ((e e' : Expr) → Swap K e e' → Known ps e → Known rs e' → eval W ps (l ++ r) e ≡ eval W rs (l' ++ r') e')
-      → (cs ds : List Expr) → SwapAll K cs ds → All (Known ps) cs → All (Known rs) ds → matches W.world ps cs l r ≡ matches W.world rs ds l' r'
+      → (cs ds : List Expr) → SwapAll K cs ds → AllByRecursion (Known ps) cs → AllByRecursion (Known rs) ds → matches W.world ps cs l r ≡ matches W.world rs ds l' r'
   unfolding matches holds
   matches-carry W ps rs l r l' r' K f [] [] s kp kr = refl
   matches-carry W ps rs l r l' r' K f [] (d ∷ ds) s kp kr = absurd s
@@ -266,7 +266,7 @@ swaps-mono K K' f (c ∷ cs) (d ∷ ds) s = (swap-mono K K' f s.0, swaps-mono K 
 
 module _ {F : Functions} where
   module _ {x y l r : Plan} {σ τ : List ℕ} (sl : Stands F σ x l) (sr : Stands F τ y r) (cs ds : List Expr) (w : SwapAll (Beside F x y l r σ τ) cs ds)
-      (kp : All (Known (fields_of F l ++ fields_of F r)) cs) (kr : All (Known (fields_of F x ++ fields_of F y)) ds) where
+      (kp : AllByRecursion (Known (fields_of F l ++ fields_of F r)) cs) (kr : AllByRecursion (Known (fields_of F x ++ fields_of F y)) ds) where
     abbrev AtLeft : Fitting F → Row → Type 0
     AtLeft W u = ((i : AnyHolds F x σ l) → get_or u i.2.place null ≡ eval W (fields_of F l) (pick σ u) i.1) × Wide (length (fields_of F x)) u
 
@@ -341,7 +341,7 @@ join-keeps F k cs l r n g =
     let own = find_owning_input (fields_of F l) (fields_of F r) in
     let w = routing_extract_all F own cs (empty_extractor n.next) in
     let a = list-after F own (fields_of F l ++ fields_of F r) (Sided (fields_of F l) (fields_of F r)) (entry-sided (fields_of F l) (fields_of F r)) cs (empty_extractor n.next) (join-known k cs l r g.0) in
-    let h : All (Sided (fields_of F l) (fields_of F r)) w.1.entries = a.1.keeps (unfold empty_extractor in tt) in
+    let h : AllByRecursion (Sided (fields_of F l) (fields_of F r)) w.1.entries = a.1.keeps (unfold empty_extractor in tt) in
     when-new (Keeping F (join k cs l r)) w.1 _ _ (then-gives _ (Keeping F (join k cs l r)) _ _ (extracted-placed F l g.1 _ _ _)
     (λ x m bx. then-gives _ (Keeping F (join k cs l r)) _ _ (extracted-placed F r g.2 _ _ _)
     (λ y o by. rebuilt-wide F (join k cs l r) (join k w.0 x y) o (λ s. (

@@ -4,7 +4,7 @@ use native.Mathlib.Nat.{pow-zero}
 use lib.Dec.{nleb→lt, not_T}
 use mir.Facts.{and_yes, yes_and}
 use Rattle.std.proofs.ByRecursion.{All-weaker}
-use Rattle.std.specs.List.{AllByRecursion as All}
+use Rattle.std.specs.List.{AllByRecursion}
 use Rattle.std.specs.Str.{bytes_eq}
 use Rattle.plan.specs.Names.{Name, digit, digits, good_name, most_number, number_of, numbered, plain, plain_byte, read_on}
 use Rattle.rows.proofs.Finds.{name-eq}
@@ -77,13 +77,13 @@ unfolding highest
 highest-base base [] = omega arith
 highest-base base (x ∷ xs) = let h = highest-base (max base (number_of x)) xs in omega arith
 
-pub highest-above : (base : ℕ) (names : List Name) → All (λ x. number_of x ≤ highest base names) names
+pub highest-above : (base : ℕ) (names : List Name) → AllByRecursion (λ x. number_of x ≤ highest base names) names
 unfolding highest
 highest-above base [] = tt
 highest-above base (x ∷ xs) = (let h = highest-base (max base (number_of x)) xs in omega arith, highest-above (max base (number_of x)) xs)
 
 -- a name above the numbers of some names is none of them
-pub above-differs : (base k : ℕ) (names : List Name) → highest base names < k → k ≤ most_number → All (λ x. bytes_eq (generated k) x ≡ false) names
+pub above-differs : (base k : ℕ) (names : List Name) → highest base names < k → k ≤ most_number → AllByRecursion (λ x. bytes_eq (generated k) x ≡ false) names
 above-differs base k names l h = All-weaker _ _ (λ x p. lower-differs k x h (omega arith)) names (highest-above base names)
 
 pub generated-is-new : GeneratedIsNew

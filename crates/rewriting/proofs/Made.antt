@@ -1,7 +1,7 @@
 -- What the questions of a made node tell, and how answers are carried from step to step.
 use Rattle.std.proofs.Common.{ℕ, Bool, true, false, T, List, [], ◌∷◌, ◌++◌, map, append-nil}
 use mir.Facts.{and_yes}
-use Rattle.std.specs.List.{AllByRecursion as All}
+use Rattle.std.specs.List.{AllByRecursion}
 use Rattle.plan.specs.Faults.{first_no}
 use Rattle.plan.specs.Fields.{every, lawful, resolved}
 use Rattle.plan.specs.Functions.{Functions}
@@ -22,7 +22,7 @@ use Rattle.rewriting.specs.Laws.{Gives}
 use Rattle.rewriting.specs.Outlay.{Tally, charged, node_space}
 use Rattle.rewriting.specs.Pushing.{or_keep}
 
-pub every-all : {A : Type 0} (p : A → Bool) (xs : List A) → T (every p xs) → All (λ x. T (p x)) xs
+pub every-all : {A : Type 0} (p : A → Bool) (xs : List A) → T (every p xs) → AllByRecursion (λ x. T (p x)) xs
 every-all p [] h = tt
 every-all p (x ∷ xs) h = let a = and_yes (p x) (every p xs) h in (a.0, every-all p xs a.1)
 
@@ -52,19 +52,19 @@ pub good-lawful : (F : Functions) (P : Plan) → Good F P → Lawful (fields_of 
 good-lawful F P g = lawful-true (fields_of F P) (good-lists F P g)
 
 module _ {F : Functions} where
-  pub project-known : (es : List Expr) (i : Plan) → Passed F (projection es i) → Good F i → All (Known (fields_of F i)) es
+  pub project-known : (es : List Expr) (i : Plan) → Passed F (projection es i) → Good F i → AllByRecursion (Known (fields_of F i)) es
   project-known es i h g = all-resolved (fields_of F i) (good-lists F i g) es h.resolves
 
   pub filter-known : (e : Expr) (i : Plan) → Passed F (filter e i) → Known (fields_of F i) e
   filter-known e i h = (all-resolved (fields_of F i) h.lists (e ∷ []) h.resolves).0
 
-  pub sort-known : (ks : List Key) (i : Plan) → Passed F (sort ks i) → All (λ k. Known (fields_of F i) k.by) ks
+  pub sort-known : (ks : List Key) (i : Plan) → Passed F (sort ks i) → AllByRecursion (λ k. Known (fields_of F i) k.by) ks
   sort-known ks i h = all_of_map (Known (fields_of F i)) (λ k. k.by) ks (all-resolved (fields_of F i) h.lists (map (λ k. k.by) ks) h.resolves)
 
-  pub join-known : (k : JoinKind) (cs : List Expr) (l r : Plan) → Passed F (join k cs l r) → All (Known (fields_of F l ++ fields_of F r)) cs
+  pub join-known : (k : JoinKind) (cs : List Expr) (l r : Plan) → Passed F (join k cs l r) → AllByRecursion (Known (fields_of F l ++ fields_of F r)) cs
   join-known k cs l r h = all-resolved (fields_of F l ++ fields_of F r) h.lists cs h.resolves
 
-  pub aggregate-known : (gs ts : List Expr) (i : Plan) → Passed F (aggregate gs ts i) → Good F i → All (Known (fields_of F i)) (gs ++ ts)
+  pub aggregate-known : (gs ts : List Expr) (i : Plan) → Passed F (aggregate gs ts i) → Good F i → AllByRecursion (Known (fields_of F i)) (gs ++ ts)
   aggregate-known gs ts i h g = all-resolved (fields_of F i) (good-lists F i g) (gs ++ ts) h.resolves
 
 pub made-gives : (Q : Plan → Type 0) (F : Functions) (stage : Stage) (level : ℕ) (p : Plan) (n : Tally) → (Passed F p → Q p) → Gives Q (made F stage level p n)
@@ -96,5 +96,5 @@ gives-weaker Q Z (built p n) k h = k p h
 gives-weaker Q Z (no_change n) k h = tt
 gives-weaker Q Z (refused x n) k h = tt
 
-pub of_refs : (P : Expr → Type 0) (fs : List Field) → All P (refs fs) → All (λ f. P (reference f)) fs
+pub of_refs : (P : Expr → Type 0) (fs : List Field) → AllByRecursion P (refs fs) → AllByRecursion (λ f. P (reference f)) fs
 of_refs P fs h = all_of_map P reference fs h

@@ -3,7 +3,7 @@
 use Rattle.std.proofs.Common.{◌≡◌, ℕ, ◌<◌, ◌≤◌, Bool, true, false, cond, not, ◌&&◌, ◌||◌, T, leb, ◌⊎◌, List, [], ◌∷◌, ◌++◌, map, is_some, Some, None, Option, sym, refl, ap, ◌∙◌, subst, inl, inr, arith, leb→le}
 use mir.Facts.{and_yes, yes_and}
 use Rattle.std.proofs.ByRecursion.{all-has, All-push}
-use Rattle.std.specs.List.{AllByRecursion as All}
+use Rattle.std.specs.List.{AllByRecursion}
 use Rattle.plan.specs.Faults.{fault}
 use Rattle.plan.specs.Fields.{any, every}
 use Rattle.plan.specs.Functions.{Functions, Placement, all_constant, column, constant, first_column, function_at, is_constant, is_keep, is_marked, keep, marked, marked_if, none_kept, placed_by, placement_of, placements_of, rule_in}
@@ -186,7 +186,7 @@ module _ (F : Functions) (fl : List Field) (o : Option (List Field)) where
   module _ (start : ℕ) (new : (k : ℕ) → start ≤ k → k ≤ most_number → Absent (generated k)) where
     -- what is known between the steps of a walk
     record Going (g : Extractor) : Type 0 where
-      absent : All (λ d. Absent d.2) g.entries
+      absent : AllByRecursion (λ d. Absent d.2) g.entries
       later : start ≤ g.next
 
     abbrev Unfull : Extractor → Type 0
@@ -332,7 +332,7 @@ module _ (F : Functions) (fl : List Field) (o : Option (List Field)) where
     going-empty = record { absent = tt; later = omega arith }
 
 -- the numbers from start on are new to the fields of an input
-field-absent : (fs : List Field) (start k : ℕ) → All (λ f. number_of f.name < start) fs → start ≤ k → k ≤ most_number → any (may_mean (unqualified_field (generated k))) fs ≡ false
+field-absent : (fs : List Field) (start k : ℕ) → AllByRecursion (λ f. number_of f.name < start) fs → start ≤ k → k ≤ most_number → any (may_mean (unqualified_field (generated k))) fs ≡ false
 unfolding may_mean under
 field-absent [] start k h l m = refl
 field-absent (f ∷ fs) start k h l m =
@@ -369,7 +369,7 @@ unfolding rebuilt
 rebuilt-left F P old node n k c =
     then-gives (λ q. q ≡ node) _ _ _ (made-gives _ F Rebuilt 0 node n (λ a. refl)) (λ q m e. rw e (gives-weaker (λ R. IsOrRecovers R node) (NothingLeft F P) _ (λ R a. record { node = node; answer = a; kind = k; clean = c }) (recovers F 0 old node m)))
 
-module _ (F : Functions) (i : Plan) (n : Tally) (h : All (λ f. number_of f.name < n.next) (fields_of F i)) where
+module _ (F : Functions) (i : Plan) (n : Tally) (h : AllByRecursion (λ f. number_of f.name < n.next) (fields_of F i)) where
   sole-new : (k : ℕ) → n.next ≤ k → k ≤ most_number → Absent F (fields_of F i) None (generated k)
   unfolding Absent has_all_column_refs
   sole-new k l m = (field-absent (fields_of F i) n.next k h l m, refl)
@@ -404,7 +404,7 @@ module _ (F : Functions) (i : Plan) (n : Tally) (h : All (λ f. number_of f.name
       then-gives (λ p. Unit {0}) _ _ _ (any-gives _) (λ r m t.
       rebuilt-left F (aggregate gs ts i) _ (aggregate w.0 v.0 r) m (_, _, r, refl) (every-join _ w.0 v.0 a.0 b.0)))
 
-join-left : (F : Functions) (k : JoinKind) (cs : List Expr) (l r : Plan) (n : Tally) → All (λ f. number_of f.name < n.next) (fields_of F l ++ fields_of F r)
+join-left : (F : Functions) (k : JoinKind) (cs : List Expr) (l r : Plan) (n : Tally) → AllByRecursion (λ f. number_of f.name < n.next) (fields_of F l ++ fields_of F r)
     → Gives (NothingLeft F (join k cs l r)) (extract_from_plan F (join k cs l r) n)
 unfolding extract_from_plan owner_in find_owning_input
 join-left F k cs l r n h =
@@ -415,7 +415,7 @@ join-left F k cs l r n h =
     new : (j : ℕ) → n.next ≤ j → j ≤ most_number → Absent F (fields_of F l) (Some (fields_of F r)) (generated j)
     new j a b = let s = all_split _ (fields_of F l) (fields_of F r) h in unfold Absent in unfold has_all_column_refs in (field-absent (fields_of F l) n.next j s.0 a b, field-absent (fields_of F r) n.next j s.1 a b)
 
-left-gives : (F : Functions) (P : Plan) (n : Tally) → All (λ f. number_of f.name < n.next) (input_fields F P) → Gives (NothingLeft F P) (extract_from_plan F P n)
+left-gives : (F : Functions) (P : Plan) (n : Tally) → AllByRecursion (λ f. number_of f.name < n.next) (input_fields F P) → Gives (NothingLeft F P) (extract_from_plan F P n)
 left-gives F (table k q ns) n h = unfold extract_from_plan in tt
 left-gives F (projection es i) n h = unfold extract_from_plan in tt
 left-gives F (filter e i) n h = filter-left F i n h e

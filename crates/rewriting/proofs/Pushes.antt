@@ -3,7 +3,7 @@ use Rattle.std.proofs.Common.{◌≡◌, ℕ, suc, ◌<◌, Bool, true, false, c
 use lib.ListN.{length-map}
 use mir.Facts.{and_yes, yes_and}
 use Rattle.std.proofs.ByRecursion.{All-get_or, All-weaker}
-use Rattle.std.specs.List.{AllByRecursion as All}
+use Rattle.std.specs.List.{AllByRecursion}
 use Rattle.plan.specs.Fields.{every}
 use Rattle.plan.specs.Functions.{Functions, null_keeping}
 use Rattle.plan.specs.Names.{Name}
@@ -41,7 +41,7 @@ use Rattle.rewriting.specs.Routing.{Pair, find_owning_input, has_all_column_refs
 use Rattle.rewriting.specs.Sample.{node}
 
 pub record WorkSound (F : Functions) (P : Plan) (w : Work) : Type 0 where
-  pub over : (es : List Expr) (level : ℕ) (n : Tally) → All (Known (fields_of F P)) es → Gives (λ R. Answer F R (projection es P)) (w.over es level n)
+  pub over : (es : List Expr) (level : ℕ) (n : Tally) → AllByRecursion (Known (fields_of F P)) es → Gives (λ R. Answer F R (projection es P)) (w.over es level n)
   pub place : (ps : List Pair) (cs : List Field) (level : ℕ) (n : Tally) → Gives (λ R. Bears F R P ps) (w.place ps cs level n)
 
 module _ {F : Functions} where
@@ -55,7 +55,7 @@ worker-sound F P g into sound = record {
   over = λ es level n k. over-answers F P g into sound es level n k;
   place = λ ps cs level n.
       let es = freshly (fields_of F P) ps in
-      then-gives (λ q. Bears F (projection es P) P ps × All (Known (fields_of F P)) es × (q ≡ projection es P)) _ _ _
+      then-gives (λ q. Bears F (projection es P) P ps × AllByRecursion (Known (fields_of F P)) es × (q ≡ projection es P)) _ _ _
       (made-gives _ F Extraction level (projection es P) _ (λ a. (record { good = (a, g); carries = carries-fresh F P (good-lawful F P g) ps }, project-known es P a g, refl)))
       (λ q m h. rw h.2 (further ps _ h.0 (over-answers F P g into sound es (suc level) m h.1)));
 }
@@ -65,11 +65,11 @@ unfolding into_projection
 project-into F es i g w s ps cs false level n k = tt
 project-into F es i g w s ps cs true level n k =
     let ms = merged F es ps cs in
-    then-gives (λ q. Bears F (projection ms i) (projection es i) ps × All (Known (fields_of F i)) ms × (q ≡ projection ms i)) _ _ _
+    then-gives (λ q. Bears F (projection ms i) (projection es i) ps × AllByRecursion (Known (fields_of F i)) ms × (q ≡ projection ms i)) _ _ _
     (made-gives _ F Merge level (projection ms i) _ (λ a. (record { good = (a, g.1); carries = carries-merge es i ps cs }, project-known ms i a g.1, refl)))
     (λ q m h. rw h.2 (go (every (is_pure) ms) m h.0 h.1))
   where
-    go : (b : Bool) (m : Tally) → Bears F (projection (merged F es ps cs) i) (projection es i) ps → All (Known (fields_of F i)) (merged F es ps cs)
+    go : (b : Bool) (m : Tally) → Bears F (projection (merged F es ps cs) i) (projection es i) ps → AllByRecursion (Known (fields_of F i)) (merged F es ps cs)
         → Gives (λ R. Bears F R (projection es i) ps) (cond b (or_keep (projection (merged F es ps cs) i) (w.over (merged F es ps cs) (suc level) m)) (built (projection (merged F es ps cs) i) m))
     go true m b k = further ps _ b (s.over (merged F es ps cs) (suc level) m k)
     go false m b k = b
@@ -82,7 +82,7 @@ project-sound F es i g w s = record {
   over = λ ds level n k. over-answers F (projection es i) g (into_projection F es i w) (project-into F es i g w s) ds level n k;
   place = λ ps cs level n.
       let ms = merged F es ps cs in
-      then-gives (λ q. Bears F (projection ms i) (projection es i) ps × All (Known (fields_of F i)) ms × (q ≡ projection ms i)) _ _ _
+      then-gives (λ q. Bears F (projection ms i) (projection es i) ps × AllByRecursion (Known (fields_of F i)) ms × (q ≡ projection ms i)) _ _ _
       (made-gives _ F Merge level (projection ms i) _ (λ a. (record { good = (a, g.1); carries = carries-merge es i ps cs }, project-known ms i a g.1, refl)))
       (λ q m h. rw h.2 (further ps _ h.0 (s.over ms (suc level) m h.1)));
 }
@@ -121,7 +121,7 @@ name-means x q g h = h
 
 module _ {F : Functions} where
   module _ (s : Name) (i : Plan) (g : Good F i) (R : Plan) (ps : List Pair) where
-    carries-subquery : All (λ p. Known (fields_of F (subquery_alias s i)) p.0) ps → Carries F R i (remap_pairs (fields_of F (subquery_alias s i)) (fields_of F i) ps) → Carries F (subquery_alias s R) (subquery_alias s i) ps
+    carries-subquery : AllByRecursion (λ p. Known (fields_of F (subquery_alias s i)) p.0) ps → Carries F R i (remap_pairs (fields_of F (subquery_alias s i)) (fields_of F i) ps) → Carries F (subquery_alias s R) (subquery_alias s i) ps
     unfolding remap_pairs rows_of
     carries-subquery k c = record {
       σ = c.σ;
@@ -154,7 +154,7 @@ subquery-into F s i g w t ps cs whole level n k =
 abbrev Allowed : Functions → Bool → Pair → Type 0
 Allowed F padded p = T padded → T (null_keeping F p.0)
 
-side-allows : (F : Functions) (padded : Bool) (ps : List Pair) → T (side_allows F padded ps) → All (Allowed F padded) ps
+side-allows : (F : Functions) (padded : Bool) (ps : List Pair) → T (side_allows F padded ps) → AllByRecursion (Allowed F padded) ps
 unfolding side_allows
 side-allows F true ps h = All-weaker _ _ (λ p k t. k) ps (every-all (λ p. null_keeping F p.0) ps h)
 side-allows F false ps h = all_any _ ps (λ p t. absurd t)
@@ -206,12 +206,12 @@ right-shows LeftAnti fl fr e k h = not-two (has_all_column_refs fl e) (has_all_c
 right-shows RightSemi fl fr e k h = tt
 right-shows RightAnti fl fr e k h = tt
 
-keep-back : {A : Type 0} (Q : A → Type 0) (f : A → Bool) (xs : List A) → All Q (keep f xs) → All (λ x. T (f x) → Q x) xs
+keep-back : {A : Type 0} (Q : A → Type 0) (f : A → Bool) (xs : List A) → AllByRecursion Q (keep f xs) → AllByRecursion (λ x. T (f x) → Q x) xs
 unfolding keep
 keep-back Q f [] h = tt
 keep-back Q f (x ∷ xs) h = go (f x) h (λ k. keep-back Q f xs k)
   where
-    go : (b : Bool) → All Q (cond b (x ∷ keep f xs) (keep f xs)) → (All Q (keep f xs) → All (λ x. T (f x) → Q x) xs) → (T b → Q x) × All (λ x. T (f x) → Q x) xs
+    go : (b : Bool) → AllByRecursion Q (cond b (x ∷ keep f xs) (keep f xs)) → (AllByRecursion Q (keep f xs) → AllByRecursion (λ x. T (f x) → Q x) xs) → (T b → Q x) × AllByRecursion (λ x. T (f x) → Q x) xs
     go true h k = (λ t. h.0, k h.1)
     go false h k = (λ t. absurd t, k h)
 
@@ -261,9 +261,9 @@ module _ (F : Functions) (k : JoinKind) (es : List Expr) (l r x y : Plan) (ps : 
   abbrev goes_right : Pair → Bool
   goes_right p = is_two (find_owning_input (fields_of F l) (fields_of F r) p.0)
 
-  carries-join : All (λ p. Known (fields_of F (join k es l r)) p.0) ps → All (λ p. T (goes_left p || goes_right p)) ps
-      → All (Allowed F (pads_left k)) (keep goes_left ps) → All (Allowed F (pads_right k)) (keep goes_right ps)
-      → All (Known (fields_of F l ++ fields_of F r)) es → All (Known (fields_of F x ++ fields_of F y)) es
+  carries-join : AllByRecursion (λ p. Known (fields_of F (join k es l r)) p.0) ps → AllByRecursion (λ p. T (goes_left p || goes_right p)) ps
+      → AllByRecursion (Allowed F (pads_left k)) (keep goes_left ps) → AllByRecursion (Allowed F (pads_right k)) (keep goes_right ps)
+      → AllByRecursion (Known (fields_of F l ++ fields_of F r)) es → AllByRecursion (Known (fields_of F x ++ fields_of F y)) es
       → Carries F x l (keep goes_left ps) → Carries F y r (keep goes_right ps) → Carries F (join k es x y) (join k es l r) ps
   unfolding find_owning_input
   carries-join kp routed al ar ko kn cl cr = record {

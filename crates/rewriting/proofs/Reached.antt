@@ -1,7 +1,7 @@
 -- What the law says of a book is a proposition, so it may be had from the mere fact that some calls led there.
 use Rattle.std.proofs.Common.{◌≡◌, ℕ, Bool, true, false, T, ◌⊎◌, List, [], ◌∷◌, ◌++◌, length, ℤ, refl, ap, subst, inl, inr, arith}
 use lib.Ieee.{Float}
-use Rattle.std.specs.List.{AllByRecursion as All}
+use Rattle.std.specs.List.{AllByRecursion}
 use Rattle.plan.specs.Functions.{Functions}
 use Rattle.plan.specs.Calls.{Answer}
 use Rattle.plan.specs.Model.{Model, Space, opened as just_opened, space, tree_at}
@@ -130,7 +130,7 @@ three_prop f g h p q = λ i. (f p.0 q.0 i, g p.1 q.1 i, h p.2 q.2 i)
 four_prop : {A B C D : Type 0} → IsProp A → IsProp B → IsProp C → IsProp D → IsProp (A × B × C × D)
 four_prop f g h k p q = λ i. (f p.0 q.0 i, g p.1 q.1 i, h p.2 q.2 i, k p.3 q.3 i)
 
-all_prop : {A : Type 0} (P : A → Type 0) → ((x : A) → IsProp (P x)) → (xs : List A) → IsProp (All P xs)
+all_prop : {A : Type 0} (P : A → Type 0) → ((x : A) → IsProp (P x)) → (xs : List A) → IsProp (AllByRecursion P xs)
 all_prop P f [] = unit-prop
 all_prop P f (x ∷ xs) = both_prop (f x) (all_prop P f xs)
 

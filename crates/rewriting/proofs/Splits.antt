@@ -2,7 +2,7 @@
 use Rattle.std.proofs.Common.{◌≡◌, ℕ, Bool, true, false, cond, ◌&&◌, T, eqb, List, [], ◌∷◌, map, length, get_or, Some, sym, refl, ◌∙◌, subst, inl, arith}
 use mir.Facts.{and_yes}
 use Rattle.std.proofs.ByRecursion.{all-has, All-map, All-push, All-weaker, has_push}
-use Rattle.std.specs.List.{AllByRecursion as All}
+use Rattle.std.specs.List.{AllByRecursion}
 use Rattle.plan.specs.Faults.{fault}
 use Rattle.plan.specs.Functions.{Functions}
 use Rattle.plan.specs.Names.{Name, prefixed}
@@ -117,9 +117,9 @@ module _ (F : Functions) (fs : List Field) where
       go false p = walked_one (alias e f) g k
   split_one_lem (call n es) g k = walked_one (call n es) g k
 
-  pub split-all : (es : List Expr) (g : Extractor) → All (Known fs) es
+  pub split-all : (es : List Expr) (g : Extractor) → AllByRecursion (Known fs) es
       → BackAll F (Held (split_all F (find_sole_input fs) es g).store.entries) es (split_all F (find_sole_input fs) es g).back
-      × After (Here fs) g (split_all F (find_sole_input fs) es g).store × (T (split_all F (find_sole_input fs) es g).whole → All IsRef (split_all F (find_sole_input fs) es g).back)
+      × After (Here fs) g (split_all F (find_sole_input fs) es g).store × (T (split_all F (find_sole_input fs) es g).whole → AllByRecursion IsRef (split_all F (find_sole_input fs) es g).back)
   unfolding split_all
   split-all [] g k = (tt, after_same (Here fs) g g refl, λ t. tt)
   split-all (e ∷ es) g k =
@@ -140,7 +140,7 @@ backs-fields F K (e ∷ es) (b ∷ bs) k = let p = k.0.field in let q = backs-fi
 module _ {F : Functions} where
   backs-row : (W : Fitting F) (R P : Plan) (σ : List ℕ) (row : Row)
       → ((e e' : Expr) → Swap (Holds F R σ P) e e' → Known (fields_of F P) e → Known (fields_of F R) e' → eval W (fields_of F P) (pick σ row) e ≡ eval W (fields_of F R) row e')
-      → (es bs : List Expr) → BackAll F (Holds F R σ P) es bs → All (Known (fields_of F P)) es → All (Known (fields_of F R)) bs
+      → (es bs : List Expr) → BackAll F (Holds F R σ P) es bs → AllByRecursion (Known (fields_of F P)) es → AllByRecursion (Known (fields_of F R)) bs
       → map (eval W (fields_of F P) (pick σ row)) es ≡ map (eval W (fields_of F R) row) bs
   backs-row W R P σ row f [] [] k kp kr = refl
   backs-row W R P σ row f [] (b ∷ bs) k kp kr = absurd k
@@ -151,7 +151,7 @@ module _ {F : Functions} where
       let q = backs-row W R P σ row f es bs k.1 kp.1 kr.1 in
       cc
 
-  pub recovery-same : {R P : Plan} {σ : List ℕ} → Stands F σ R P → (es bs : List Expr) → BackAll F (Holds F R σ P) es bs → All (Known (fields_of F P)) es → All (Known (fields_of F R)) bs
+  pub recovery-same : {R P : Plan} {σ : List ℕ} → Stands F σ R P → (es bs : List Expr) → BackAll F (Holds F R σ P) es bs → AllByRecursion (Known (fields_of F P)) es → AllByRecursion (Known (fields_of F R)) bs
       → Same F (projection bs R) (projection es P)
   unfolding rows_of
   recovery-same {R} {P} {σ} s es bs k kp kr = record {
@@ -195,10 +195,10 @@ module _ {F : Functions} where
 
 -- what was wholly captured stands there, in some places
 abbrev Placed : Functions → Plan → Plan → List ℕ → List Expr → Type 0
-Placed F R P σ es = (τ : List ℕ) × Covers (fields_of F R) τ (map (field_of F) es) × ((W : Fitting F) → All (λ row. map (eval W (fields_of F P) (pick σ row)) es ≡ pick τ row) (rows W R))
+Placed F R P σ es = (τ : List ℕ) × Covers (fields_of F R) τ (map (field_of F) es) × ((W : Fitting F) → AllByRecursion (λ row. map (eval W (fields_of F P) (pick σ row)) es ≡ pick τ row) (rows W R))
 
 module _ {F : Functions} where
-  backs-placed : {R P : Plan} {σ : List ℕ} → Stands F σ R P → (es bs : List Expr) → BackAll F (Holds F R σ P) es bs → All IsRef bs → All (Known (fields_of F P)) es → Placed F R P σ es
+  backs-placed : {R P : Plan} {σ : List ℕ} → Stands F σ R P → (es bs : List Expr) → BackAll F (Holds F R σ P) es bs → AllByRecursion IsRef bs → AllByRecursion (Known (fields_of F P)) es → Placed F R P σ es
   unfolding pick
   backs-placed {R} s [] [] k r kp = ([], tt, λ W. all_any _ (rows W R) (λ row. refl))
   backs-placed s [] (b ∷ bs) k r kp = absurd k
@@ -270,7 +270,7 @@ pub record Bears (F : Functions) (R P : Plan) (ps : List Pair) : Type 0 where
   pub carries : Carries F R P ps
 
 abbrev pub IntoSound : Functions → Plan → Into → Type 0
-IntoSound F P into = (ps : List Pair) (cs : List Field) (whole : Bool) (level : ℕ) (n : Tally) → All (λ p. Known (fields_of F P) p.0) ps
+IntoSound F P into = (ps : List Pair) (cs : List Field) (whole : Bool) (level : ℕ) (n : Tally) → AllByRecursion (λ p. Known (fields_of F P) p.0) ps
     → Gives (λ R. Bears F R P ps) (into ps cs whole level n)
 
 unalias-known : (fs : List Field) (e : Expr) → Known fs e → Known fs (unalias e)
@@ -280,7 +280,7 @@ unalias-known fs (literal v) k = k
 unalias-known fs (alias e f) k = k
 unalias-known fs (call n es) k = k
 
-pub pairs-all : (Q : Pair → Type 0) (s : Side) (ds : List Entry) → All (λ d. Q (unalias d.1, d.2)) ds → All Q (pairs_of s ds)
+pub pairs-all : (Q : Pair → Type 0) (s : Side) (ds : List Entry) → AllByRecursion (λ d. Q (unalias d.1, d.2)) ds → AllByRecursion Q (pairs_of s ds)
 unfolding pairs_of
 pairs-all Q s ds h = All-map Q _ _ (all_keep _ _ ds h)
 
@@ -296,7 +296,7 @@ module _ (F : Functions) (P : Plan) (g : Good F P) (into : Into) (sound : IntoSo
   abbrev the_split : List Expr → ℕ → Split
   the_split es n = split_all F (find_sole_input (fields_of F P)) es (empty_extractor n)
 
-  recover-answers : (es : List Expr) (n : ℕ) → All (Known (fields_of F P)) es → (level : ℕ) (R : Plan) (m : Tally) → Bears F R P (pairs_of one (the_split es n).store.entries)
+  recover-answers : (es : List Expr) (n : ℕ) → AllByRecursion (Known (fields_of F P)) es → (level : ℕ) (R : Plan) (m : Tally) → Bears F R P (pairs_of one (the_split es n).store.entries)
       → Gives (λ R. Answer F R (projection es P)) (recover_push F es (the_split es n) level R m)
   unfolding recover_push
   recover-answers es n k level R m b = go _ (λ t. (and_yes (the_split es n).whole (eqb (length (fields_of F R)) (length es)) (and_yes ((the_split es n).whole && eqb (length (fields_of F R)) (length es)) (same_set (fields_of F R) (map (field_of F) es)) t).0).0)
@@ -304,10 +304,10 @@ module _ (F : Functions) (P : Plan) (g : Good F P) (into : Into) (sound : IntoSo
       ds : List Entry
       ds = (the_split es n).store.entries
 
-      a : BackAll F (Held ds) es (the_split es n).back × After (Here (fields_of F P)) (empty_extractor n) (the_split es n).store × (T (the_split es n).whole → All IsRef (the_split es n).back)
+      a : BackAll F (Held ds) es (the_split es n).back × After (Here (fields_of F P)) (empty_extractor n) (the_split es n).store × (T (the_split es n).whole → AllByRecursion IsRef (the_split es n).back)
       a = split-all F (fields_of F P) es (empty_extractor n) k
 
-      here-all : All (Here (fields_of F P)) ds
+      here-all : AllByRecursion (Here (fields_of F P)) ds
       here-all = a.1.keeps (unfold empty_extractor in tt)
 
       backs : BackAll F (Holds F R b.carries.σ P) es (the_split es n).back
@@ -318,15 +318,15 @@ module _ (F : Functions) (P : Plan) (g : Good F P) (into : Into) (sound : IntoSo
       go false f = made-gives _ F Recovery level (projection (the_split es n).back R) m (λ r.
           same_answer (r, b.good) (recovery-same b.carries.stands es _ backs k (project-known _ R r b.good)))
 
-  pub over-answers : (es : List Expr) (level : ℕ) (n : Tally) → All (Known (fields_of F P)) es → Gives (λ R. Answer F R (projection es P)) (split_and_push F P into es level n)
+  pub over-answers : (es : List Expr) (level : ℕ) (n : Tally) → AllByRecursion (Known (fields_of F P)) es → Gives (λ R. Answer F R (projection es P)) (split_and_push F P into es level n)
   unfolding split_and_push push_split
   over-answers es level n k = go (pairs_of one (the_split es n.next).store.entries) refl
     where
       a : BackAll F (Held (the_split es n.next).store.entries) es (the_split es n.next).back × After (Here (fields_of F P)) (empty_extractor n.next) (the_split es n.next).store
-          × (T (the_split es n.next).whole → All IsRef (the_split es n.next).back)
+          × (T (the_split es n.next).whole → AllByRecursion IsRef (the_split es n.next).back)
       a = split-all F (fields_of F P) es (empty_extractor n.next) k
 
-      known-pairs : All (λ p. Known (fields_of F P) p.0) (pairs_of one (the_split es n.next).store.entries)
+      known-pairs : AllByRecursion (λ p. Known (fields_of F P) p.0) (pairs_of one (the_split es n.next).store.entries)
       known-pairs =
           pairs-all (λ p. Known (fields_of F P) p.0) one (the_split es n.next).store.entries
           (All-weaker _ _ (λ d h. unalias-known (fields_of F P) d.1 h.1) (the_split es n.next).store.entries (a.1.keeps (unfold empty_extractor in tt)))

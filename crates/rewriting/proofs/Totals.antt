@@ -4,7 +4,7 @@ use lib.Dec.{eqb_refl}
 use lib.ListN.{length-map}
 use mir.Facts.{and_yes, yes_and}
 use Rattle.std.proofs.ByRecursion.{All-weaker}
-use Rattle.std.specs.List.{AllByRecursion as All}
+use Rattle.std.specs.List.{AllByRecursion}
 use Rattle.plan.specs.Fields.{every}
 use Rattle.plan.specs.Functions.{Functions, function_at, is_marked, is_total, is_total_rule, placed_by, placement_of, placements_of, rule_in}
 use Rattle.plan.specs.Names.{prefixed}
@@ -97,7 +97,7 @@ module _ (F : Functions) (fs : List Field) where
       rw (not_taken (is_marked (placement_of F (call n es))) (find_sole_input fs (call n es)) (call n es) g (under_call n (routing_extracts F (find_sole_input fs) es g)) (total-stays F n es t))
       (taking a.0, a.1)
 
-  totals-after : (es : List Expr) (g : Extractor) → All (λ e. T (is_total F e)) es → All (Known fs) es
+  totals-after : (es : List Expr) (g : Extractor) → AllByRecursion (λ e. T (is_total F e)) es → AllByRecursion (Known fs) es
       → HeadAll (Held (routing_extract_all F (find_sole_input fs) es g).1.entries) es (routing_extract_all F (find_sole_input fs) es g).0 × After (Here fs) g (routing_extract_all F (find_sole_input fs) es g).1
   unfolding routing_extract_all
   totals-after [] g t k = (tt, after_same (Here fs) g g refl)
@@ -160,14 +160,14 @@ swaps-long K (c ∷ cs) (d ∷ ds) s = ap suc (swaps-long K cs ds s.1)
 
 module _ {F : Functions} where
   groups-row : (W : Fitting F) (R : Plan) (σ : List ℕ) (P : Plan) (row : Row) → Carried F W R σ P row → (cs ds : List Expr) → SwapAll (Holds F R σ P) cs ds
-      → All (Known (fields_of F P)) cs → All (Known (fields_of F R)) ds → map (eval W (fields_of F P) (pick σ row)) cs ≡ map (eval W (fields_of F R) row) ds
+      → AllByRecursion (Known (fields_of F P)) cs → AllByRecursion (Known (fields_of F R)) ds → map (eval W (fields_of F P) (pick σ row)) cs ≡ map (eval W (fields_of F R) row) ds
   groups-row W R σ P row f [] [] s kp kr = refl
   groups-row W R σ P row f [] (d ∷ ds) s kp kr = absurd s
   groups-row W R σ P row f (c ∷ cs) [] s kp kr = absurd s
   groups-row W R σ P row f (c ∷ cs) (d ∷ ds) s kp kr = let p = f c d s.0 kp.0 kr.0 in let q = groups-row W R σ P row f cs ds s.1 kp.1 kr.1 in cc
 
   totals-row : (W : Fitting F) {R P : Plan} {σ : List ℕ} (s : Stands F σ R P) (row : Row) → Carried F W R σ P row → (cs ds : List Expr) → HeadAll (Holds F R σ P) cs ds
-      → All (Known (fields_of F P)) cs → All (Known (fields_of F R)) ds → map (taken_by W.world (fields_of F P) (pick σ row)) cs ≡ map (taken_by W.world (fields_of F R) row) ds
+      → AllByRecursion (Known (fields_of F P)) cs → AllByRecursion (Known (fields_of F R)) ds → map (taken_by W.world (fields_of F P) (pick σ row)) cs ≡ map (taken_by W.world (fields_of F R) row) ds
   totals-row W s row f [] [] h kp kr = refl
   totals-row W s row f [] (d ∷ ds) h kp kr = absurd h
   totals-row W s row f (c ∷ cs) [] h kp kr = absurd h
@@ -178,7 +178,7 @@ module _ {F : Functions} where
 
 module _ {F : Functions} where
   aggregate-rows : {R P : Plan} {σ : List ℕ} (s : Stands F σ R P) (gs ts gs' ts' : List Expr) → SwapAll (Holds F R σ P) gs gs' → HeadAll (Holds F R σ P) ts ts'
-      → All (Known (fields_of F P)) (gs ++ ts) → All (Known (fields_of F R)) (gs' ++ ts') → (W : Fitting F) → rows W (aggregate gs' ts' R) ≡ rows W (aggregate gs ts P)
+      → AllByRecursion (Known (fields_of F P)) (gs ++ ts) → AllByRecursion (Known (fields_of F R)) (gs' ++ ts') → (W : Fitting F) → rows W (aggregate gs' ts' R) ≡ rows W (aggregate gs ts P)
   unfolding rows_of keyed
   aggregate-rows {R} {P} {σ} s gs ts gs' ts' wg wt kp kr W =
       let a = all_split _ gs ts kp in
@@ -233,7 +233,7 @@ recovered-count F P R n g p q = go (same_fields (fields_of F P) (fields_of F R))
     go false e false f = absurd (subst T f (rw p (eqb_refl (length (fields_of F R)))))
 
 rebuilt-count : (F : Functions) (gs ts gs' ts' : List Expr) (i r : Plan) (n : Tally) → Good F r → T (every (is_total F) ts') → length gs ≡ length gs' → length ts ≡ length ts'
-    → (All (Known (fields_of F r)) (gs' ++ ts') → (W : Fitting F) → rows W (aggregate gs' ts' r) ≡ rows W (aggregate gs ts i))
+    → (AllByRecursion (Known (fields_of F r)) (gs' ++ ts') → (W : Fitting F) → rows W (aggregate gs' ts' r) ≡ rows W (aggregate gs ts i))
     → Gives (Keeping F (aggregate gs ts i)) (rebuilt F 0 (fields_of F (aggregate gs ts i)) (aggregate gs' ts' r) n)
 unfolding rebuilt
 rebuilt-count F gs ts gs' ts' i r n gr g p q f =
@@ -253,7 +253,7 @@ aggregate-keeps F gs ts i n g =
     let v = routing_extract_all F (find_sole_input (fields_of F i)) ts w.1 in
     let a = list-after F (find_sole_input (fields_of F i)) (fields_of F i) (Here (fields_of F i)) (entry_here F (fields_of F i)) gs (empty_extractor n.next) k.0 in
     let b = totals-after F (fields_of F i) ts w.1 (every-all (is_total F) ts g.2) k.1 in
-    let h : All (Here (fields_of F i)) v.1.entries = b.1.keeps (a.1.keeps (unfold empty_extractor in tt)) in
+    let h : AllByRecursion (Here (fields_of F i)) v.1.entries = b.1.keeps (a.1.keeps (unfold empty_extractor in tt)) in
     let wg = swaps-mono _ _ (held-longer _ _ b.1.longer) gs w.0 a.0 in
     when-new (Keeping F (aggregate gs ts i)) v.1 _ _ (then-gives _ (Keeping F (aggregate gs ts i)) _ _ (extracted-placed F i g.1 _ _ _)
     (λ r m p. rebuilt-count F gs ts w.0 v.0 i r m p.bears.good (heads-total F _ ts v.0 b.0 g.2) (swaps-long _ gs w.0 wg) (heads-long _ ts v.0 b.0)

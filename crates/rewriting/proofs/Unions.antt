@@ -3,7 +3,7 @@ use Rattle.std.proofs.Common.{◌≡◌, ℕ, Bool, true, false, cond, ◌&&◌,
 use lib.ListN.{length-map}
 use mir.Facts.{and_yes, yes_and}
 use Rattle.std.proofs.ByRecursion.{All-append, All-weaker}
-use Rattle.std.specs.List.{AllByRecursion as All}
+use Rattle.std.specs.List.{AllByRecursion}
 use Rattle.plan.specs.Fields.{every, resolves}
 use Rattle.plan.specs.Functions.{Functions}
 use Rattle.plan.specs.Plans.{Plan, Plans, fields_of, without_qualifier}
@@ -44,7 +44,7 @@ places-eq (a ∷ τ) (b ∷ bs) h =
     let q = places-eq τ bs k.1 in
     cc
 
-covers-sole : (rs : List Field) (σ : List ℕ) (ps : List Field) → Covers rs σ ps → All (λ f. Known rs (reference f)) ps → σ ≡ map (λ f. seek f rs) ps
+covers-sole : (rs : List Field) (σ : List ℕ) (ps : List Field) → Covers rs σ ps → AllByRecursion (λ f. Known rs (reference f)) ps → σ ≡ map (λ f. seek f rs) ps
 covers-sole rs [] [] c k = refl
 covers-sole rs [] (p ∷ ps) c k = absurd c
 covers-sole rs (i ∷ σ) [] c k = absurd c
@@ -53,7 +53,7 @@ covers-sole rs (i ∷ σ) (p ∷ ps) c k =
     let b = covers-sole rs σ ps c.2 k.1 in
     cc
 
-map_each : {A B : Type 0} (f g : A → B) (xs : List A) → map f xs ≡ map g xs → All (λ x. f x ≡ g x) xs
+map_each : {A B : Type 0} (f g : A → B) (xs : List A) → map f xs ≡ map g xs → AllByRecursion (λ x. f x ≡ g x) xs
 map_each f g [] p = tt
 map_each f g (x ∷ xs) p = (cc, map_each f g xs (cc))
 
@@ -65,7 +65,7 @@ fit-self : (n : ℕ) (row : Row) → Wide n row → fit n row ≡ row
 unfolding fit
 fit-self n row w = rw (← w) (take-self row (nulls (length row)))
 
-fit-rows : (n : ℕ) (rs : List Row) → All (Wide n) rs → map (fit n) rs ≡ rs
+fit-rows : (n : ℕ) (rs : List Row) → AllByRecursion (Wide n) rs → map (fit n) rs ≡ rs
 fit-rows n [] h = refl
 fit-rows n (r ∷ rs) h = let p = fit-self n r h.0 in let q = fit-rows n rs h.1 in cc
 
@@ -82,13 +82,13 @@ bears-goods F from ps done (also r rs) b = absurd b
 bears-goods F from ps (also i is) done b = absurd b
 bears-goods F from ps (also i is) (also r rs) b = (b.0.good, bears-goods F from ps is rs b.1)
 
-module _ (F : Functions) (from : List Field) (ps : List Pair) (known-ps : All (λ p. Known from p.0) ps) (first : Plan) (n : ℕ) (τ : List ℕ) where
+module _ (F : Functions) (from : List Field) (ps : List Pair) (known-ps : AllByRecursion (λ p. Known from p.0) ps) (first : Plan) (n : ℕ) (τ : List ℕ) where
   -- an input, at the places of the first
   record Part (i r : Plan) : Type 0 where
     stands : Stands F τ r i
     wide : length (fields_of F r) ≡ n
-    meant : All (λ p. Known (fields_of F r) (reference (unqualified_field p.1))) ps
-    values : All (λ p. (W : Fitting F) → All (λ row. get_or row (seek (unqualified_field p.1) (fields_of F first)) null ≡ eval W from (pick τ row) p.0) (rows W r)) ps
+    meant : AllByRecursion (λ p. Known (fields_of F r) (reference (unqualified_field p.1))) ps
+    values : AllByRecursion (λ p. (W : Fitting F) → AllByRecursion (λ row. get_or row (seek (unqualified_field p.1) (fields_of F first)) null ≡ eval W from (pick τ row) p.0) (rows W r)) ps
 
   part : (i r : Plan) → Good F i → length from ≡ length (fields_of F i) → Bears F r i (remap_pairs from (fields_of F i) ps)
       → T (fits_places F n τ (places_in F first (aliases_of ps)) ps i r) → Part i r
@@ -120,7 +120,7 @@ module _ (F : Functions) (from : List Field) (ps : List Pair) (known-ps : All (�
       Borne p = Holds F r b.carries.σ i (unqualified_field p.1) (remap from (fields_of F i) p.0)
 
       value : (p : Pair) → Named p → Borne p → b.carries.σ ≡ τ → (W : Fitting F)
-          → All (λ row. get_or row (seek (unqualified_field p.1) (fields_of F first)) null ≡ eval W from (pick τ row) p.0) (rows W r)
+          → AllByRecursion (λ row. get_or row (seek (unqualified_field p.1) (fields_of F first)) null ≡ eval W from (pick τ row) p.0) (rows W r)
       value p x y e W =
           All-weaker _ _ (λ row v.
           ap (λ (k : ℕ). get_or row k null) (sym (x.1.0.sole y.place y.inside y.meant ∙ x.1.1)) ∙ v
@@ -158,7 +158,7 @@ module _ (F : Functions) (from : List Field) (ps : List Pair) (known-ps : All (�
       cc
 
   rest-values : (W : Fitting F) (is rs : Plans) → PartAll is rs
-      → All (λ p. All (λ row. get_or row (seek (unqualified_field p.1) (fields_of F first)) null ≡ eval W from (pick τ row) p.0) (further W n rs)) ps
+      → AllByRecursion (λ p. AllByRecursion (λ row. get_or row (seek (unqualified_field p.1) (fields_of F first)) null ≡ eval W from (pick τ row) p.0) (further W n rs)) ps
   unfolding rows_of
   rest-values W done done p = all_any _ ps (λ q. tt)
   rest-values W done (also r rs) p = absurd p
@@ -175,7 +175,7 @@ abbrev bare_all : List Field → List Field
 bare_all fs = map without_qualifier fs
 
 module _ {F : Functions} where
-  module _ (i : Plan) (is : Plans) (r : Plan) (rs : Plans) (ps : List Pair) (g : Good F (union i is)) (k : All (λ p. Known (fields_of F (union i is)) p.0) ps) where
+  module _ (i : Plan) (is : Plans) (r : Plan) (rs : Plans) (ps : List Pair) (g : Good F (union i is)) (k : AllByRecursion (λ p. Known (fields_of F (union i is)) p.0) ps) where
     pub carries-union : Bears F r i (remap_pairs (fields_of F (union i is)) (fields_of F i) ps) → BearsAll F (fields_of F (union i is)) ps is rs
         → T (fits_places F (length (fields_of F r)) (places_in F r (fields_of F i)) (places_in F r (aliases_of ps)) ps i r)
         → T (all_fit_places F (length (fields_of F r)) (places_in F r (fields_of F i)) (places_in F r (aliases_of ps)) ps is rs)
@@ -187,8 +187,8 @@ module _ {F : Functions} where
         covers = covers-map _ bare-mean (fields_of F r) τ (fields_of F i) one.stands.covers;
         alike = λ W. alike W;
       };
-      holds = all_two Named (λ p. (W : Fitting F) → All (Ok W p) (further W n rs)) _ hold ps (all_two _ _ Named (λ p x y. (x, y)) ps one.values fitted)
-          (all-forall (λ (W : Fitting F) p. All (Ok W p) (further W n rs)) ps (λ W. rest-values F from ps k r n τ W is rs rest));
+      holds = all_two Named (λ p. (W : Fitting F) → AllByRecursion (Ok W p) (further W n rs)) _ hold ps (all_two _ _ Named (λ p x y. (x, y)) ps one.values fitted)
+          (all-forall (λ (W : Fitting F) p. AllByRecursion (Ok W p) (further W n rs)) ps (λ W. rest-values F from ps k r n τ W is rs rest));
     }
       where
         from : List Field
@@ -224,12 +224,12 @@ module _ {F : Functions} where
         Ok W p row = get_or row (seek (unqualified_field p.1) (fields_of F r)) null ≡ eval W from (pick τ row) p.0
 
         Named : Pair → Type 0
-        Named p = ((W : Fitting F) → All (Ok W p) (rows W r)) × Known (fields_of F r) (reference (unqualified_field p.1))
+        Named p = ((W : Fitting F) → AllByRecursion (Ok W p) (rows W r)) × Known (fields_of F r) (reference (unqualified_field p.1))
 
-        fitted : All (λ p. Known (fields_of F r) (reference (unqualified_field p.1))) ps
+        fitted : AllByRecursion (λ p. Known (fields_of F r) (reference (unqualified_field p.1))) ps
         fitted = one.meant
 
-        hold : (p : Pair) → Named p → ((W : Fitting F) → All (Ok W p) (further W n rs)) → Holds F (union r rs) τ (union i is) (unqualified_field p.1) p.0
+        hold : (p : Pair) → Named p → ((W : Fitting F) → AllByRecursion (Ok W p) (further W n rs)) → Holds F (union r rs) τ (union i is) (unqualified_field p.1) p.0
         hold p x y = record {
           place = seek (unqualified_field p.1) (fields_of F r);
           inside = rw (length-map {B = Field} (fields_of F r) without_qualifier) x.1.inside;
@@ -255,7 +255,7 @@ all-wide F n τ ω ps (also p is) (also r rs) h =
     yes_and (eqb (length (fields_of F r)) n) (wide_all F n rs) (place-wide F n τ ω ps p r a.0) (all-wide F n τ ω ps is rs a.1)
 
 pub union-united : (F : Functions) (level : ℕ) (ps : List Pair) (i : Plan) (is : Plans) (r : Plan) (rs : Plans) (n : Tally) → Good F (union i is)
-    → All (λ p. Known (fields_of F (union i is)) p.0) ps → Bears F r i (remap_pairs (fields_of F (union i is)) (fields_of F i) ps) → BearsAll F (fields_of F (union i is)) ps is rs
+    → AllByRecursion (λ p. Known (fields_of F (union i is)) p.0) ps → Bears F r i (remap_pairs (fields_of F (union i is)) (fields_of F i) ps) → BearsAll F (fields_of F (union i is)) ps is rs
     → Gives (λ R. Bears F R (union i is) ps) (united F level ps i is r rs n)
 unfolding united
 union-united F level ps i is r rs n g k b bs = go _ (λ t. and_yes (fits_places F (length (fields_of F r)) (places_in F r (fields_of F i)) (places_in F r (aliases_of ps)) ps i r) _ t)

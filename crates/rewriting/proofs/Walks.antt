@@ -1,7 +1,7 @@
 -- The walk replaces parts by references to the columns that it enters; what such an expression is worth.
 use Rattle.std.proofs.Common.{◌≡◌, ℕ, suc, Bool, true, false, cond, T, List, [], ◌∷◌, ◌++◌, map, get_or, Some, None, Option, sym, refl, ap, ◌∙◌, subst, inl, inr, append_assoc, append-nil, suc-le-suc, zero-le, arith}
 use Rattle.std.proofs.ByRecursion.{all-has, All-push, All-weaker, has_append_left, has_push}
-use Rattle.std.specs.List.{ContainsAt as Has, AllByRecursion as All}
+use Rattle.std.specs.List.{ContainsAt as Has, AllByRecursion}
 use Rattle.plan.specs.Functions.{Functions, is_marked, placement_of}
 use Rattle.plan.specs.Names.{Name, prefixed}
 use Rattle.plan.specs.Plans.{Key, Plan, fields_of}
@@ -53,7 +53,7 @@ entered-held e (d ∷ ds) x p = go (same_expr d.1 e) refl p (λ q. entered-held 
 -- after a walk: the entries, longer by lawful ones
 pub record After (Q : Entry → Type 0) (g h : Extractor) : Type 0 where
   pub longer : Longer g.entries h.entries
-  pub keeps : All Q g.entries → All Q h.entries
+  pub keeps : AllByRecursion Q g.entries → AllByRecursion Q h.entries
 
 pub after_same : (Q : Entry → Type 0) (g h : Extractor) → g.entries ≡ h.entries → After Q g h
 after_same Q g h p = record { longer = ([], sym p ∙ sym (append-nil g.entries)); keeps = λ k. rw (← p) k }
@@ -110,7 +110,7 @@ module _ (F : Functions) (own : Expr → Option Side) (fs : List Field) (Q : Ent
         let b = walks-after es (routing_extract F own e g).1 k.1 in
         (both (swap-longer _ _ b.1.longer a.0) b.0, after-trans Q g _ _ a.1 b.1)
 
-  pub list-after : (es : List Expr) (g : Extractor) → All (Known fs) es
+  pub list-after : (es : List Expr) (g : Extractor) → AllByRecursion (Known fs) es
       → SwapAll (Held (routing_extract_all F own es g).1.entries) es (routing_extract_all F own es g).0 × After Q g (routing_extract_all F own es g).1
   unfolding routing_extract_all
   list-after [] g k = (tt, after_same Q g g refl)
@@ -128,7 +128,7 @@ SwapKeys K (c ∷ cs) (d ∷ ds) = (Swap K c.by d.by × (c.direction ≡ d.direc
 
 module _ (F : Functions) (own : Expr → Option Side) (fs : List Field) (Q : Entry → Type 0)
     (q : (s : Side) (n : ℕ) (es : Exprs) (x : Name) → Known fs (call n es) → own (call n es) ≡ Some s → Q (s, call n es, x)) where
-  pub keys-after : (ks : List Key) (g : Extractor) → All (λ k. Known fs k.by) ks
+  pub keys-after : (ks : List Key) (g : Extractor) → AllByRecursion (λ k. Known fs k.by) ks
       → SwapKeys (Held (routing_extract_keys F own ks g).1.entries) ks (routing_extract_keys F own ks g).0 × After Q g (routing_extract_keys F own ks g).1
   unfolding routing_extract_keys
   keys-after [] g k = (tt, after_same Q g g refl)
@@ -160,7 +160,7 @@ AnyHolds F R σ P = (x : Field) × (e : Expr) × Holds F R σ P x e
 module _ {F : Functions} where
   pub carry-all : (W : Fitting F) {σ : List ℕ} {R P : Plan} → Stands F σ R P → (Z : Row → Type 0)
       → ((row : Row) → ((e e' : Expr) → Swap (Holds F R σ P) e e' → Known (fields_of F P) e → Known (fields_of F R) e' → eval W (fields_of F P) (pick σ row) e ≡ eval W (fields_of F R) row e') → Z row)
-      → All Z (rows W R)
+      → AllByRecursion Z (rows W R)
   carry-all W {σ} {R} {P} s Z f =
       All-weaker (λ row. (i : AnyHolds F R σ P) → get_or row i.2.place null ≡ eval W (fields_of F P) (pick σ row) i.1) Z
       (λ row h. f row (λ e e' w kp kr. carry-at W R P σ s.covers row (λ x e k. h (x, e, k)) w kp kr))
@@ -190,7 +190,7 @@ same-side one two p = let z : ◌≡◌ {A = ℕ} 0 1 = cc in absurd (omega arit
 same-side two one p = let z : ◌≡◌ {A = ℕ} 0 1 = cc in absurd (omega arith)
 same-side two two p = tt
 
-side-pairs : (Q : Pair → Type 0) (s : Side) (ds : List Entry) → All Q (pairs_of s ds) → All (λ d. T (same_side d.0 s) → Q (unalias d.1, d.2)) ds
+side-pairs : (Q : Pair → Type 0) (s : Side) (ds : List Entry) → AllByRecursion Q (pairs_of s ds) → AllByRecursion (λ d. T (same_side d.0 s) → Q (unalias d.1, d.2)) ds
 unfolding pairs_of keep
 side-pairs Q s [] h = tt
 side-pairs Q s (d ∷ ds) h = go (same_side d.0 s) h (λ k. side-pairs Q s ds k)
@@ -198,9 +198,9 @@ side-pairs Q s (d ∷ ds) h = go (same_side d.0 s) h (λ k. side-pairs Q s ds k)
     rest : List Pair
     rest = pairs_of s ds
 
-    go : (b : Bool) → All Q (map (λ d. (unalias d.1, d.2)) (cond b (d ∷ keep (λ d. same_side d.0 s) ds) (keep (λ d. same_side d.0 s) ds)))
-        → (All Q rest → All (λ d. T (same_side d.0 s) → Q (unalias d.1, d.2)) ds)
-        → (T b → Q (unalias d.1, d.2)) × All (λ d. T (same_side d.0 s) → Q (unalias d.1, d.2)) ds
+    go : (b : Bool) → AllByRecursion Q (map (λ d. (unalias d.1, d.2)) (cond b (d ∷ keep (λ d. same_side d.0 s) ds) (keep (λ d. same_side d.0 s) ds)))
+        → (AllByRecursion Q rest → AllByRecursion (λ d. T (same_side d.0 s) → Q (unalias d.1, d.2)) ds)
+        → (T b → Q (unalias d.1, d.2)) × AllByRecursion (λ d. T (same_side d.0 s) → Q (unalias d.1, d.2)) ds
     go true h f = (λ t. h.0, f h.1)
     go false h f = (λ t. absurd t, f h)
 
@@ -211,7 +211,7 @@ module _ {F : Functions} where
       let a = all-has _ ds d (side-pairs (λ p. Holds F R c.σ P (unqualified_field p.1) p.0) s ds c.holds) h.1 (same-side d.0 s p) in
       rw h.2 (holds-alike d.1 e h.3 (unalias-holds d.1 a))
 
-  pub agree-rows : (W : Fitting F) (R P : Plan) (σ : List ℕ) → All (λ row. (i : AnyHolds F R σ P) → get_or row i.2.place null ≡ eval W (fields_of F P) (pick σ row) i.1) (rows W R)
+  pub agree-rows : (W : Fitting F) (R P : Plan) (σ : List ℕ) → AllByRecursion (λ row. (i : AnyHolds F R σ P) → get_or row i.2.place null ≡ eval W (fields_of F P) (pick σ row) i.1) (rows W R)
   agree-rows W R P σ = all-forall (λ (i : AnyHolds F R σ P) (row : Row). get_or row i.2.place null ≡ eval W (fields_of F P) (pick σ row) i.1) (rows W R) (λ i. i.2.value W)
 
   -- the same of any two lists of fields

@@ -7,7 +7,7 @@
 --     Law      after any run, and after any loose one: nodes with one origin have the same fields and, in every world that fits, the same rows;
 --              every reference means exactly one field; and an extract leaves no Marked call that one former input owns
 use Rattle.std.specs.Prelude.{◌≡◌, ℕ, ◌+◌, ◌<◌, ◌≤◌, false, ◌&&◌, ◌⊎◌, List, [], ◌∷◌, ◌++◌, map, length, get_or, Some, None, ◌==◌, nat_lt, slice_index}
-use Rattle.std.specs.List.{AllByRecursion as All}
+use Rattle.std.specs.List.{AllByRecursion}
 use Rattle.plan.specs.Terms.{Expr}
 use Rattle.plan.specs.Functions.{Functions}
 use Rattle.plan.specs.Plans.{Plan}
@@ -45,11 +45,11 @@ pub data Request : Type 0 where
 pub record Helpers (s : Model) (nodes : List Node) (numbers : List (List ℕ)) : Type 0 where
   pub long : length numbers ≡ length nodes
   pub origins : (k : ℕ) → k < length nodes → (get_or nodes k no_node).origin ≡ count_of s + k
-  pub good : All (λ n. Good s.functions n.tree) nodes
+  pub good : AllByRecursion (λ n. Good s.functions n.tree) nodes
 
 -- the node i stands on the nodes before it whose numbers are given
 abbrev pub Standing : List Node → ℕ → List ℕ → Plan → Type 0
-Standing nodes i numbers p = All (λ k. k < i) numbers × (inputs_of p ≡ map (λ k. (get_or nodes k no_node).tree) numbers)
+Standing nodes i numbers p = AllByRecursion (λ k. k < i) numbers × (inputs_of p ≡ map (λ k. (get_or nodes k no_node).tree) numbers)
 
 -- the answer R with the origin o is the node r, behind helpers; the rest of the book is only longer
 pub record Added (s : Model) (R : Plan) (o r : ℕ) (s' : Model) : Type 0 where

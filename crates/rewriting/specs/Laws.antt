@@ -4,7 +4,7 @@
 --     Kept F R P      R has the fields and the rows of P, and its nodes are good
 --     ExtractLaw, PushLaw      what extract and push build is kept
 use Rattle.std.specs.Prelude.{◌≡◌, ◌++◌}
-use Rattle.std.specs.List.{AllByRecursion as All}
+use Rattle.std.specs.List.{AllByRecursion}
 use Rattle.plan.specs.Functions.{Functions}
 use Rattle.plan.specs.Plans.{Plan, Plans, fields_of}
 use Rattle.plan.specs.Plans.Plan.{table, projection, filter, sort, limit, aggregate, join, subquery_alias, union}
@@ -22,12 +22,12 @@ Gives Q (refused x n) = Unit {0}
 abbrev mutual
   pub Resolved : Functions → Plan → Type 0
   Resolved F (table k q ns) = Lawful (fields_of F (table k q ns))
-  Resolved F (projection es i) = All (Known (fields_of F i)) es × Lawful (fields_of F (projection es i)) × Resolved F i
+  Resolved F (projection es i) = AllByRecursion (Known (fields_of F i)) es × Lawful (fields_of F (projection es i)) × Resolved F i
   Resolved F (filter e i) = Known (fields_of F i) e × Lawful (fields_of F (filter e i)) × Resolved F i
-  Resolved F (sort ks i) = All (λ k. Known (fields_of F i) k.by) ks × Lawful (fields_of F (sort ks i)) × Resolved F i
+  Resolved F (sort ks i) = AllByRecursion (λ k. Known (fields_of F i) k.by) ks × Lawful (fields_of F (sort ks i)) × Resolved F i
   Resolved F (limit s c i) = Lawful (fields_of F (limit s c i)) × Resolved F i
-  Resolved F (aggregate gs ts i) = All (Known (fields_of F i)) (gs ++ ts) × Lawful (fields_of F (aggregate gs ts i)) × Resolved F i
-  Resolved F (join k cs l r) = All (Known (fields_of F l ++ fields_of F r)) cs × Lawful (fields_of F l ++ fields_of F r) × Resolved F l × Resolved F r
+  Resolved F (aggregate gs ts i) = AllByRecursion (Known (fields_of F i)) (gs ++ ts) × Lawful (fields_of F (aggregate gs ts i)) × Resolved F i
+  Resolved F (join k cs l r) = AllByRecursion (Known (fields_of F l ++ fields_of F r)) cs × Lawful (fields_of F l ++ fields_of F r) × Resolved F l × Resolved F r
   Resolved F (subquery_alias n i) = Lawful (fields_of F (subquery_alias n i)) × Resolved F i
   Resolved F (union i is) = Lawful (fields_of F (union i is)) × Resolved F i × ResolvedAll F is
 

@@ -5,7 +5,7 @@
 --     NothingLeft F P R      R is the node P rebuilt, or a Projection over it, and no such call is left in the rebuilt node
 --     ExtractLeavesNothing      what extract builds is so
 use Rattle.std.specs.Prelude.{◌≡◌, ◌<◌, Bool, false, not, ◌&&◌, ◌||◌, T, ◌⊎◌, List, is_some, None, Option}
-use Rattle.std.specs.List.{AllByRecursion as All}
+use Rattle.std.specs.List.{AllByRecursion}
 use Rattle.plan.specs.Names.{number_of, prefixed}
 use Rattle.plan.specs.Terms.{Expr, Exprs}
 use Rattle.plan.specs.Terms.Expr.{literal, reference, alias, call}
@@ -68,4 +68,4 @@ pub record NothingLeft (F : Functions) (P R : Plan) : Type 0 where
 
 -- where the numbers from the next one on are new to the fields of the inputs
 abbrev pub ExtractLeavesNothing : Type 0
-ExtractLeavesNothing = (F : Functions) (P R : Plan) (n m : Tally) → All (λ f. number_of f.name < n.next) (input_fields F P) → extract_from_plan F P n ≡ built R m → NothingLeft F P R
+ExtractLeavesNothing = (F : Functions) (P R : Plan) (n m : Tally) → AllByRecursion (λ f. number_of f.name < n.next) (input_fields F P) → extract_from_plan F P n ≡ built R m → NothingLeft F P R
