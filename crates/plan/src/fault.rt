@@ -1,45 +1,50 @@
 //! Why a call is refused: the question that was answered no, the stage and the level.
-ghost use Rattle.plan.specs.Faults.{Decided, question_number, stage_number};
+ghost use Rattle.plan.specs.Faults.{Decided, question_number, refusal, stage_number};
+ghost use Rattle.plan.specs.declared.fault.Question.TheVariants.{Bounded};
 ghost use Rattle.std.specs.Prelude.{◌≡◌};
+
+use crate::code::UnknownCode;
+use std::error::Error;
+use std::fmt;
 
 /// The questions that a call is asked, in their order: the first no decides.
 #[derive(Clone, Copy, PartialEq, Eq, Debug)]
 pub enum Question {
-    /// 1: does each number given stand in the book?
-    Present,
-    /// 2: are names and text literals well formed?
-    Named,
-    /// 3: do counts, positions and codes keep their bounds?
-    Bounded,
-    /// 4: does a total stand only among an Aggregate's totals?
-    Placed,
-    /// 5: do a swap's old and new input have one origin?
-    SameOrigin,
-    /// 6: does each reference resolve?
-    Resolved,
-    /// 7: is each field list lawful?
-    Lawful,
-    /// 8: do fields, trees and rendered names keep their limits?
-    Limited,
-    /// 9: is there space?
-    Space,
+    /// Does each number given stand in the book?
+    Present = 1,
+    /// Are names and text literals well formed?
+    Named = 2,
+    /// Do counts, positions and codes keep their bounds?
+    Bounded = 3,
+    /// Does a total stand only among an Aggregate's totals?
+    Placed = 4,
+    /// Do a swap's old and new input have one origin?
+    SameOrigin = 5,
+    /// Does each reference resolve?
+    Resolved = 6,
+    /// Is each field list lawful?
+    Lawful = 7,
+    /// Do fields, trees and rendered names keep their limits?
+    Limited = 8,
+    /// Is there space?
+    Space = 9,
 }
 
 /// What was being made.
 #[derive(Clone, Copy, PartialEq, Eq, Debug)]
 pub enum Stage {
-    /// 1: the caller's own call.
-    Call,
-    /// 2: an extraction projection.
-    Extraction,
-    /// 3: a merge.
-    Merge,
-    /// 4: a rebuilt node.
-    Rebuilt,
-    /// 5: a recovery.
-    Recovery,
-    /// 6: a closing.
-    Closing,
+    /// The caller's own call.
+    Call = 1,
+    /// An extraction projection.
+    Extraction = 2,
+    /// A merge.
+    Merge = 3,
+    /// A rebuilt node.
+    Rebuilt = 4,
+    /// A recovery.
+    Recovery = 5,
+    /// A closing.
+    Closing = 6,
 }
 
 /// A refusal.
@@ -50,40 +55,55 @@ pub struct Fault {
     pub level: u8,
 }
 
+/// The number that a refusal is known by.
+impl From<Question> for u8 {
+    ghost from_gives = { λ q n. n ≡ question_number q };
+
+    fn from(question: Question) -> u8 {
+        question as u8
+    }
+}
+
+/// The number that a stage is known by.
+impl From<Stage> for u8 {
+    ghost from_gives = { λ s n. n ≡ stage_number s };
+
+    fn from(stage: Stage) -> u8 {
+        stage as u8
+    }
+}
+
 impl Question {
-    /// The number that a refusal is known by.
-    pub fn number(self) -> u8
-        ensures { result ≡ question_number self }
+    /// The refusal of a caller's own call by this question: stage 1, level 0.
+    pub fn refusal(self) -> Fault
+        ensures { result ≡ refusal self }
     {
-        match self {
-            Question::Present => 1,
-            Question::Named => 2,
-            Question::Bounded => 3,
-            Question::Placed => 4,
-            Question::SameOrigin => 5,
-            Question::Resolved => 6,
-            Question::Lawful => 7,
-            Question::Limited => 8,
-            Question::Space => 9,
+        Fault {
+            question: self,
+            stage: Stage::Call,
+            level: 0,
         }
     }
 }
 
-impl Stage {
-    /// The number that a stage is known by.
-    pub fn number(self) -> u8
-        ensures { result ≡ stage_number self }
-    {
-        match self {
-            Stage::Call => 1,
-            Stage::Extraction => 2,
-            Stage::Merge => 3,
-            Stage::Rebuilt => 4,
-            Stage::Recovery => 5,
-            Stage::Closing => 6,
-        }
+/// A number that is no code is refused by question 3.
+impl From<UnknownCode> for Fault {
+    ghost from_gives = { λ _ f. f ≡ refusal Bounded };
+
+    fn from(_unknown: UnknownCode) -> Fault {
+        Question::Bounded.refusal()
     }
 }
+
+impl fmt::Display for Fault {
+    fn fmt<W: fmt::Write>(&self, f: &mut fmt::Formatter<W>) -> fmt::Result {
+        let question = u8::from(self.question);
+        let stage = u8::from(self.stage);
+        write!(f, "{question}, stage {stage}, level {}", self.level)
+    }
+}
+
+impl Error for Fault {}
 
 /// A question of a building call: refused at stage 1, level 0, where the answer is no.
 pub fn ask(granted: bool, question: Question) -> Result<(), Fault>
@@ -92,9 +112,5 @@ pub fn ask(granted: bool, question: Question) -> Result<(), Fault>
     if granted {
         return Ok(());
     }
-    Err(Fault {
-        question,
-        stage: Stage::Call,
-        level: 0,
-    })
+    Err(question.refusal())
 }
