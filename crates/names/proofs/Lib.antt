@@ -1,4 +1,4 @@
 pub mod Bytes
 pub mod Numbers
 pub mod Parting
-pub mod Gathering
+pub mod Places

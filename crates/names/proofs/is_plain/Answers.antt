@@ -1,16 +1,12 @@
-use Rattle.std.proofs.Common.{sym, ◌∙◌}
-use Rattle.std.proofs.lemmas.List.{at_drop_all}
-use Rattle.plan.specs.Names.{plain}
-use Rattle.names.proofs.Bytes.{plain-pass, plain-stop}
+use Rattle.std.proofs.Common.{◌∙◌, rules}
+use Rattle.std.proofs.lemmas.Iterator.{YieldsList-from_slice}
+use Rattle.std.proofs.lemmas.Iterator.Search.{all_from_yields_List}
+use borrow.Author.Tests.{tests}
+use Rattle.plan.specs.Names.{plain_byte}
+use Rattle.names.proofs.Bytes.{all_plain}
 use Rattle.names.proofs.is_plain.Goals as goal
 
-pub returns-then-not-is_plain_byte : goal.returns-then-not-is_plain_byte
-returns-then-not-is_plain_byte c =
-    sym (c.loop-c.invariant ∙ plain-stop c.args.name.now c.loop-c.c-index c.loop-c-test.true (sym c.is_plain_byte.ensures ∙ c.if-not-is_plain_byte.true))
-
-pub loop-c-preserved : goal.loop-c-preserved
-loop-c-preserved c =
-    c.loop-c.invariant ∙ plain-pass c.args.name.now c.loop-c.c-index c.loop-c-test.true (sym c.is_plain_byte.ensures ∙ c.if-not-is_plain_byte.false)
-
 pub returns : goal.returns
-returns c = sym (c.loop-c.invariant ∙ at_drop_all plain c.args.name.now c.loop-c.c-index c.loop-c-test.false)
+returns c =
+    let xs = c.args.name.now in
+    all_from_yields_List plain_byte _ _ c.all.result c.all.ensures.ran (YieldsList-from_slice xs (cc)) (λ x b q k. search (rules, tests)) ∙ all_plain xs

@@ -1,32 +1,28 @@
-use Rattle.std.proofs.Common.{◌≡◌, ◌+◌, min, cond, drop, sym, ap, ◌∙◌, arith}
-use Rattle.std.proofs.lemmas.List.{at_drop_all}
-use Rattle.plan.specs.Names.{digits, read_on}
-use Rattle.names.proofs.Bytes.{digits-pass, digits-stop, read_more}
+use Rattle.std.proofs.Common.{◌≡◌, ◌+◌, ◌-◌, ◌*◌, min, drop, get_or, sym, ap, ◌∙◌, arith}
+use Rattle.std.proofs.lemmas.List.{at_drop_more, at_drop_all}
+use Rattle.names.specs.declared.TheConstants.{NUMBER_CAP}
+use Rattle.names.proofs.Bytes.{read_capped, read_digit, read_other}
 use Rattle.names.proofs.read_digits.Goals as goal
 
-pub returns-then-not-is_digit : goal.returns-then-not-is_digit
-returns-then-not-is_digit c =
+pub returns-then-not-is_ascii_digit : goal.returns-then-not-is_ascii_digit
+returns-then-not-is_ascii_digit c =
     let xs = c.args.text.now in
-    let e = c.loop-c.invariant.1 ∙ digits-stop xs c.loop-c.c-index c.loop-c-test.true (sym c.is_digit.ensures ∙ c.if-not-is_digit.true) in
-    sym (ap (λ b. min (cond b (read_on 0 xs) 0) 1000000000) e)
+    let i = c.loop-c.c-index in
+    sym (c.loop-c.invariant.1 ∙ at_drop_more (read_capped NUMBER_CAP c.loop-c.n) xs i 0 c.loop-c-test.true
+    ∙ read_other NUMBER_CAP c.loop-c.n (get_or xs i 0) (drop (i + 1) xs) (sym c.is_ascii_digit.ensures.value ∙ c.if-not-is_ascii_digit.true))
 
 pub loop-c-preserved : goal.loop-c-preserved
 loop-c-preserved c =
     let xs = c.args.text.now in
     let i = c.loop-c.c-index in
-    let h = c.loop-c-test.true in
-    let v = c.min-n.ensures in (
-      omega (arith, v),
-      c.loop-c.invariant.1 ∙ digits-pass xs i h (sym c.is_digit.ensures ∙ c.if-not-is_digit.false),
-      c.loop-c.invariant.2 ∙ read_more 1000000000 xs i c.loop-c.n h ∙ ap (λ n. min (read_on n (drop (i + 1) xs)) 1000000000) (sym v),
+    let v : c.min-n.result ≡ min (c.loop-c.n * 10 + (get_or xs i 0 - 48)) NUMBER_CAP = omega arith in (
+      omega arith,
+      c.loop-c.invariant.1 ∙ at_drop_more (read_capped NUMBER_CAP c.loop-c.n) xs i 0 c.loop-c-test.true
+          ∙ read_digit NUMBER_CAP c.loop-c.n (get_or xs i 0) (drop (i + 1) xs) (sym c.is_ascii_digit.ensures.value ∙ c.if-not-is_ascii_digit.false)
+          ∙ ap (λ n. read_capped NUMBER_CAP n (drop (i + 1) xs)) (sym v),
     )
 
 pub returns : goal.returns
 returns c =
-    let xs = c.args.text.now in
-    let i = c.loop-c.c-index in
-    let h = c.loop-c-test.false in
-    let e = c.loop-c.invariant.1 ∙ at_drop_all digits xs i h in
-    let v : min (read_on 0 xs) 1000000000 ≡ min c.loop-c.n 1000000000 = c.loop-c.invariant.2 ∙ at_drop_all (λ ys. min (read_on c.loop-c.n ys) 1000000000) xs i h in
-    let m : min c.loop-c.n 1000000000 ≡ c.loop-c.n = omega (arith, c.loop-c.invariant.0) in
-    sym (ap (λ b. min (cond b (read_on 0 xs) 0) 1000000000) e ∙ v ∙ m)
+    let e : min c.loop-c.n NUMBER_CAP ≡ c.loop-c.n = omega arith in
+    sym (c.loop-c.invariant.1 ∙ at_drop_all (read_capped NUMBER_CAP c.loop-c.n) c.args.text.now c.loop-c.c-index c.loop-c-test.false ∙ e)

@@ -1,14 +1,14 @@
-use Rattle.std.proofs.Common.{◌≡◌, ◌-◌, ◌≤◌, true, ◌++◌, map, length, drop}
-use Rattle.table.specs.Contents.{contents}
-use Rattle.plan.specs.Calls.{parts}
+use Rattle.std.proofs.Common.{◌≡◌, ◌≤◌, true, false, map, length, drop}
+use Rattle.std.specs.Slice.Iter.{split_rest, split_done}
 use Rattle.plan.specs.Fields.{every}
-use Rattle.names.specs.Pieces.{piece_in, piece_of}
+use Rattle.names.specs.Spans.{span_in, word}
 use Rattle.names.proofs.parts.split_names.Given as goal
 
-abbrev pub invariant-loop-start : goal.invariant-loop-start
-invariant-loop-start l =
-    (l.start ≤ length l.text) × (map (piece_of l.text) (contents l.out) ++ parts (drop l.start l.text) ≡ parts l.text)
-    × (every (piece_in l.text) (contents l.out) ≡ true)
-
-abbrev pub decreases-loop-start : goal.decreases-loop-start
-decreases-loop-start l = length l.initial.text - l.start
+abbrev pub invariant-loop-part : goal.invariant-loop-part
+invariant-loop-part l = record {
+  can_next : (goal.iterator-loop-part).can_next l.part-iterator;
+  is_finite : (goal.iterator-loop-part).is_finite l.part-iterator;
+  pieces : map (word l.text) l.out ≡ map (λ p. p.now) l.yielded;
+  inside : every (span_in l.text) l.out ≡ true;
+  ahead : split_done l.part-iterator ≡ false → (l.start ≤ length l.text) × (drop l.start l.text ≡ split_rest l.part-iterator);
+}
