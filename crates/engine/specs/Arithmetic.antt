@@ -2,17 +2,19 @@
 --     in_range n      a whole number of 64 bits, else null
 --     same_texts a b      whether both are texts, of the same bytes
 --     alike a b      whether two values are of one kind and equal
+--     of_numbers wholes reals a b      an operation on two whole numbers or on two reals
+--     is_false v      whether v is the truth value false
 --     equal, plus, minus, both, missing      the five functions
 --     arithmetic n vs      what a call of number n means
 --     arithmetic_strict n      whether number n gives null wherever an argument is null
-use Rattle.std.specs.Prelude.{ℕ, ◌^◌, Bool, true, false, cond, not, ◌&&◌, ◌||◌, List, ℤ, pos, negsuc, ◌+ℤ◌, ◌-ℤ◌, ◌==◌, nat_eq, nat_lt}
+use Rattle.std.specs.Prelude.{ℕ, ◌^◌, Bool, true, false, cond, not, ◌&&◌, ◌||◌, List, Float, ℤ, pos, negsuc, ◌+ℤ◌, ◌-ℤ◌, ◌==◌, nat_eq, nat_lt}
 use Rattle.std.specs.Float.{binary64}
 use Rattle.std.specs.Float.Ieee.{eq, add, sub}
 use Rattle.std.specs.Str.{bytes_eq}
 use Rattle.plan.specs.Terms.{same_truth, same_whole}
 use Rattle.plan.specs.Values.{Value, is_true, is_null_value}
 use Rattle.plan.specs.Values.Value.{null, truth, whole, real, text, record_number}
-use Rattle.engine.specs.Kinds.{if_truth, if_whole, if_real, if_text, if_record, is_false, of_one, of_two}
+use Rattle.engine.specs.Arguments.{of_one, of_two}
 
 -- from -2^63 to 2^63 - 1; negsuc n is -(n + 1)
 abbrev pub in_range : ℤ → Value
@@ -21,38 +23,39 @@ in_range (negsuc n) = cond (nat_lt n (2 ^ 63)) (whole (negsuc n)) null
 
 -- two texts of the same bytes
 abbrev pub same_texts : Value → Value → Bool
-same_texts a b = if_text false (λ s. if_text false (bytes_eq s) b) a
+same_texts (text s) (text t) = bytes_eq s t
+same_texts _ _ = false
 
 -- reals compare as numbers: not-a-number is like nothing, and 0.0 is like -0.0
 abbrev pub alike : Value → Value → Bool
-alike null b = false
-alike (truth t) b = if_truth false (same_truth t) b
-alike (whole m) b = if_whole false (same_whole m) b
-alike (real x) b = if_real false (eq x) b
-alike (text s) b = if_text false (bytes_eq s) b
-alike (record_number k) b = if_record false (nat_eq k) b
+alike (truth s) (truth t) = same_truth s t
+alike (whole m) (whole n) = same_whole m n
+alike (real x) (real y) = eq x y
+alike (text s) (text t) = bytes_eq s t
+alike (record_number k) (record_number l) = nat_eq k l
+alike _ _ = false
 
 -- null if an argument is null
 abbrev pub equal : Value → Value → Value
 equal a b = cond (is_null_value a || is_null_value b) null (truth (alike a b))
 
--- two whole numbers or two reals, which are rounded once; null at other kinds
+-- by one operation of two whole numbers, by the other of two reals; null at other kinds
+abbrev pub of_numbers : (ℤ → ℤ → ℤ) → (Float → Float → Float) → Value → Value → Value
+of_numbers wholes _ (whole m) (whole n) = in_range (wholes m n)
+of_numbers _ reals (real x) (real y) = real (reals x y)
+of_numbers _ _ _ _ = null
+
+-- reals are rounded once
 abbrev pub plus : Value → Value → Value
-plus null b = null
-plus (truth t) b = null
-plus (whole m) b = if_whole null (λ n. in_range (m +ℤ n)) b
-plus (real x) b = if_real null (λ y. real (add binary64 x y)) b
-plus (text s) b = null
-plus (record_number k) b = null
+plus = of_numbers (◌+ℤ◌) (add binary64)
 
 -- the first less the second
 abbrev pub minus : Value → Value → Value
-minus null b = null
-minus (truth t) b = null
-minus (whole m) b = if_whole null (λ n. in_range (m -ℤ n)) b
-minus (real x) b = if_real null (λ y. real (sub binary64 x y)) b
-minus (text s) b = null
-minus (record_number k) b = null
+minus = of_numbers (◌-ℤ◌) (sub binary64)
+
+abbrev pub is_false : Value → Bool
+is_false (truth b) = not b
+is_false _ = false
 
 -- false if either is false, true for two trues, else null
 abbrev pub both : Value → Value → Value

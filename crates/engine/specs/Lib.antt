@@ -1,6 +1,7 @@
-pub mod Kinds
+pub mod Arguments
 pub mod Strictness
 pub mod Arithmetic
+pub mod Numbers
 pub mod ArithmeticLaw
 pub mod Records
 pub mod RecordsLaw

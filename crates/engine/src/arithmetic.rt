@@ -1,41 +1,55 @@
 //! Equality, sums and differences, `and`, and the test for a missing value.
-ghost use Rattle.std.specs.Prelude.{◌≡◌, ℕ, List, [], ◌∷◌, ◌+ℤ◌, ◌-ℤ◌};
-ghost use Rattle.engine.specs.Arithmetic.{alike, arithmetic, arithmetic_strict, both as both_of, equal as equal_of, in_range, minus as minus_of, plus as plus_of, same_texts};
+ghost use Rattle.std.specs.Prelude.{◌≡◌, ℕ, List, FitsSigned, SomeIff, ◌+ℤ◌, ◌-ℤ◌};
+ghost use Rattle.std.specs.Int.{w64};
+ghost use Rattle.engine.specs.Arithmetic.{alike, arithmetic, arithmetic_strict, both as both_of, equal as equal_of, minus as minus_of, plus as plus_of, same_texts};
 ghost use Rattle.engine.specs.ArithmeticLaw.{arithmetic-nulls};
+ghost use Rattle.engine.specs.Numbers.{OfNumbers};
 ghost use Rattle.value.specs.Meanings.{meaning_of};
 
 use super::Engine;
 use value::{Value, is_null, shown};
 
-/// The sum, or null where it has more than 64 bits. It is made only after that is known.
-fn plus_whole(m: i64, n: i64) -> Value
-    ensures { (book row : List ℕ) → meaning_of book row result ≡ in_range (m +ℤ n) }
+/// The sum, or none where it has more than 64 bits.
+// A rule of the project: the range is tested before the operation, for either sign. `checked_add` operates first.
+fn plus_whole(m: i64, n: i64) -> Option<i64>
+    ensures { SomeIff result (FitsSigned w64 (m +ℤ n)) (m +ℤ n) }
 {
     let fits = if n < 0 {
         m >= i64::MIN - n
     } else {
         m <= i64::MAX - n
     };
-    if fits {
-        Value::Whole(m + n)
-    } else {
-        Value::Null
-    }
+    if fits { Some(m + n) } else { None }
 }
 
-/// The difference, or null where it has more than 64 bits.
-fn minus_whole(m: i64, n: i64) -> Value
-    ensures { (book row : List ℕ) → meaning_of book row result ≡ in_range (m -ℤ n) }
+/// The difference, or none where it has more than 64 bits.
+// The same rule. One function of both would take the operation, its inverse and the bound for each sign.
+fn minus_whole(m: i64, n: i64) -> Option<i64>
+    ensures { SomeIff result (FitsSigned w64 (m -ℤ n)) (m -ℤ n) }
 {
     let fits = if n < 0 {
         m <= i64::MAX + n
     } else {
         m >= i64::MIN + n
     };
-    if fits {
-        Value::Whole(m - n)
-    } else {
-        Value::Null
+    if fits { Some(m - n) } else { None }
+}
+
+/// An operation on two whole numbers or on two reals.
+fn of_numbers<W: Fn(i64, i64) -> Option<i64>, R: Fn(f64, f64) -> f64>(
+    wholes: W,
+    reals: R,
+    a: Value,
+    b: Value,
+) -> Value
+    requires wholes { W.IsAlwaysCallable wholes }
+    requires reals { R.IsAlwaysCallable reals }
+    ensures { OfNumbers (W.post wholes) (R.post reals) a b result }
+{
+    match (a, b) {
+        (Value::Whole(m), Value::Whole(n)) => wholes(m, n).map_or(Value::Null, Value::Whole),
+        (Value::Real(x), Value::Real(y)) => Value::Real(reals(x, y)),
+        _ => Value::Null,
     }
 }
 
@@ -43,46 +57,23 @@ fn minus_whole(m: i64, n: i64) -> Value
 fn plus(a: Value, b: Value) -> Value
     ensures { (book row : List ℕ) → meaning_of book row result ≡ plus_of (meaning_of book row a) (meaning_of book row b) }
 {
-    match a {
-        Value::Whole(m) => match b {
-            Value::Whole(n) => plus_whole(m, n),
-            _ => Value::Null,
-        },
-        Value::Real(x) => match b {
-            Value::Real(y) => Value::Real(x + y),
-            _ => Value::Null,
-        },
-        _ => Value::Null,
-    }
+    of_numbers(plus_whole, |x, y| x + y, a, b)
 }
 
 /// The difference of two whole numbers or of two reals.
 fn minus(a: Value, b: Value) -> Value
     ensures { (book row : List ℕ) → meaning_of book row result ≡ minus_of (meaning_of book row a) (meaning_of book row b) }
 {
-    match a {
-        Value::Whole(m) => match b {
-            Value::Whole(n) => minus_whole(m, n),
-            _ => Value::Null,
-        },
-        Value::Real(x) => match b {
-            Value::Real(y) => Value::Real(x - y),
-            _ => Value::Null,
-        },
-        _ => Value::Null,
-    }
+    of_numbers(minus_whole, |x, y| x - y, a, b)
 }
 
 /// Whether two texts that are there have the same bytes.
 fn same_text(book: &[u8], row: &[u8], a: Value, b: Value) -> bool
     ensures { result ≡ same_texts (meaning_of book.now row.now a) (meaning_of book.now row.now b) }
 {
-    match shown(book, row, a) {
-        Err(_) => false,
-        Ok(x) => match shown(book, row, b) {
-            Err(_) => false,
-            Ok(y) => x == y,
-        },
+    match (shown(book, row, a), shown(book, row, b)) {
+        (Ok(x), Ok(y)) => x == y,
+        _ => false,
     }
 }
 
@@ -117,29 +108,7 @@ fn both(a: Value, b: Value) -> Value
 {
     match (a, b) {
         (Value::Truth(x), Value::Truth(y)) => Value::Truth(x && y),
-        (Value::Truth(false), _) => Value::Truth(false),
-        (_, Value::Truth(false)) => Value::Truth(false),
-        _ => Value::Null,
-    }
-}
-
-fn of_one(book: &[u8], row: &[u8], number: u32, a: Value) -> Value
-    ensures { meaning_of book.now row.now result ≡ arithmetic number (meaning_of book.now row.now a ∷ []) }
-{
-    match number {
-        4 => Value::Truth(is_null(book, row, a)),
-        _ => Value::Null,
-    }
-}
-
-fn of_two(book: &[u8], row: &[u8], number: u32, a: Value, b: Value) -> Value
-    ensures { meaning_of book.now row.now result ≡ arithmetic number (meaning_of book.now row.now a ∷ meaning_of book.now row.now b ∷ []) }
-{
-    match number {
-        0 => equal(book, row, a, b),
-        1 => plus(a, b),
-        2 => minus(a, b),
-        3 => both(a, b),
+        (Value::Truth(false), _) | (_, Value::Truth(false)) => Value::Truth(false),
         _ => Value::Null,
     }
 }
@@ -156,13 +125,14 @@ impl Engine for Arithmetic {
     ghost nulls = { λ _ _ _. arithmetic-nulls };
 
     fn apply(&self, book: &[u8], row: &[u8], number: u32, args: &[Value]) -> Value {
-        let count = args.len();
-        if count == 1 {
-            of_one(book, row, number, args[0])
-        } else if count == 2 {
-            of_two(book, row, number, args[0], args[1])
-        } else {
-            Value::Null
+        // A rule of the project: functions are known by number.
+        match (number, args) {
+            (0, &[a, b]) => equal(book, row, a, b),
+            (1, &[a, b]) => plus(a, b),
+            (2, &[a, b]) => minus(a, b),
+            (3, &[a, b]) => both(a, b),
+            (4, &[a]) => Value::Truth(is_null(book, row, a)),
+            _ => Value::Null,
         }
     }
 

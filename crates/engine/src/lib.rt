@@ -25,6 +25,7 @@ pub trait Engine {
     ghost nulls: { Nulls meaning strict };
 
     /// The value of a call.
+    // The two texts are two slices, not one struct: the interface of engines, which crates above call.
     fn apply(&self, book: &[u8], row: &[u8], number: u32, args: &[Value]) -> Value
         ensures { meaning_of book.now row.now result ≡ meaning self.now book.now row.now number (map (meaning_of book.now row.now) args.now) };
 

@@ -1,6 +1,6 @@
 //! Two engines side by side.
 ghost use Rattle.engine.specs.Strictness.{pair-nulls, pair_meaning, pair_strict};
-ghost use Rattle.std.specs.Prelude.{◌≡◌, nat_lt};
+ghost use Rattle.std.specs.Prelude.{SomeIff, ◌-◌, ◌≤◌};
 
 use super::Engine;
 use value::Value;
@@ -14,11 +14,11 @@ pub struct Pair<A, B> {
 }
 
 impl<A, B> Pair<A, B> {
-    /// Whether a number goes to the first engine.
-    fn is_first(&self, number: u32) -> bool
-        ensures { result ≡ nat_lt number self.now.split }
+    /// The second engine's number, unless the number goes to the first.
+    fn of_second(&self, number: u32) -> Option<u32>
+        ensures { SomeIff result (self.now.split ≤ number) (number - self.now.split) }
     {
-        number < self.split
+        number.checked_sub(self.split)
     }
 }
 
@@ -27,21 +27,19 @@ impl<A: Engine, B: Engine> Engine for Pair<A, B> {
 
     ghost strict = { λ e. pair_strict e.split (A.Engine.strict e.first) (B.Engine.strict e.second) };
 
-    ghost nulls = { pair-nulls (λ e. e.split) (λ e. e.first) (λ e. e.second) A.Engine.nulls B.Engine.nulls };
+    ghost nulls = { λ e. pair-nulls e.split (A.Engine.nulls e.first) (B.Engine.nulls e.second) };
 
     fn apply(&self, book: &[u8], row: &[u8], number: u32, args: &[Value]) -> Value {
-        if self.is_first(number) {
-            self.first.apply(book, row, number, args)
-        } else {
-            self.second.apply(book, row, number - self.split, args)
+        match self.of_second(number) {
+            None => self.first.apply(book, row, number, args),
+            Some(rest) => self.second.apply(book, row, rest, args),
         }
     }
 
     fn is_strict(&self, number: u32) -> bool {
-        if self.is_first(number) {
-            self.first.is_strict(number)
-        } else {
-            self.second.is_strict(number - self.split)
+        match self.of_second(number) {
+            None => self.first.is_strict(number),
+            Some(rest) => self.second.is_strict(rest),
         }
     }
 }

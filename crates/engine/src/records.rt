@@ -16,35 +16,12 @@ pub struct Entry<'a> {
     pub value: Value,
 }
 
-/// Whether an entry is of that record and name.
-fn is_of(entry: Entry, owner: u32, name: &[u8]) -> bool
-    ensures { result ≡ is_of entry.entry owner name.now }
-{
-    entry.owner == owner && entry.name == name
-}
-
-/// The value of the first entry of that record and name, else null.
-fn field(entries: &[Entry], book: &[u8], row: &[u8], owner: u32, name: &[u8]) -> Value
-    ensures { meaning_of book.now row.now result ≡ field_of book.now row.now entries.now owner name.now }
-{
-    for entry in entries {
-        if is_of(*entry, owner, name) {
-            return entry.value;
-        }
-    }
-    Value::Null
-}
-
-/// The field of a record value that a text value names.
-fn get_field(entries: &[Entry], book: &[u8], row: &[u8], a: Value, b: Value) -> Value
-    ensures { meaning_of book.now row.now result ≡ get_field (field_of book.now row.now entries.now) (meaning_of book.now row.now a) (meaning_of book.now row.now b) }
-{
-    match a {
-        Value::Record(owner) => match shown(book, row, b) {
-            Ok(name) => field(entries, book, row, owner, name),
-            Err(_) => Value::Null,
-        },
-        _ => Value::Null,
+impl Entry<'_> {
+    /// Whether it is of that record and name.
+    fn is_of(&self, owner: u32, name: &[u8]) -> bool
+        ensures { result ≡ is_of self.now owner name.now }
+    {
+        self.owner == owner && self.name == name
     }
 }
 
@@ -54,7 +31,29 @@ pub struct Records<'a, 'n> {
     pub entries: &'a [Entry<'n>],
 }
 
-impl<'a, 'n> Engine for Records<'a, 'n> {
+impl Records<'_, '_> {
+    /// The value of the first entry of that record and name, else null.
+    fn field(&self, book: &[u8], row: &[u8], owner: u32, name: &[u8]) -> Value
+        ensures { meaning_of book.now row.now result ≡ field_of book.now row.now self.now.entries.now owner name.now }
+    {
+        self.entries
+            .iter()
+            .find(|entry| entry.is_of(owner, name))
+            .map_or(Value::Null, |entry| entry.value)
+    }
+
+    /// The field of a record value that a text value names.
+    fn get_field(&self, book: &[u8], row: &[u8], a: Value, b: Value) -> Value
+        ensures { meaning_of book.now row.now result ≡ get_field (field_of book.now row.now self.now.entries.now) (meaning_of book.now row.now a) (meaning_of book.now row.now b) }
+    {
+        match (a, shown(book, row, b)) {
+            (Value::Record(owner), Ok(name)) => self.field(book, row, owner, name),
+            _ => Value::Null,
+        }
+    }
+}
+
+impl Engine for Records<'_, '_> {
     ghost meaning = { λ e book row. records (field_of book row e.entries.now) };
 
     ghost strict = { λ _ _. true };
@@ -62,12 +61,9 @@ impl<'a, 'n> Engine for Records<'a, 'n> {
     ghost nulls = { λ e book row n vs _. records-nulls (field_of book row e.entries.now) n vs };
 
     fn apply(&self, book: &[u8], row: &[u8], number: u32, args: &[Value]) -> Value {
-        let count = args.len();
-        if count != 2 {
-            return Value::Null;
-        }
-        match number {
-            0 => get_field(self.entries, book, row, args[0], args[1]),
+        // A rule of the project: functions are known by number.
+        match (number, args) {
+            (0, &[a, b]) => self.get_field(book, row, a, b),
             _ => Value::Null,
         }
     }

@@ -10,24 +10,15 @@ fn call(number: u32, a: Value, b: Value) -> Value {
 }
 
 fn is_null(v: Value) -> bool {
-    match v {
-        Value::Null => true,
-        _ => false,
-    }
+    matches!(v, Value::Null)
 }
 
 fn is_whole(v: Value, n: i64) -> bool {
-    match v {
-        Value::Whole(m) => m == n,
-        _ => false,
-    }
+    matches!(v, Value::Whole(m) if m == n)
 }
 
 fn is_truth(v: Value, b: bool) -> bool {
-    match v {
-        Value::Truth(t) => t == b,
-        _ => false,
-    }
+    matches!(v, Value::Truth(t) if t == b)
 }
 
 fn part(side: Side, start: u32, len: u32) -> Value {

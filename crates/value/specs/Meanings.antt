@@ -37,12 +37,8 @@ meaning_of book row (Record k) = record_number k
 
 -- the bytes of a text
 abbrev pub bytes_of : Meaning → Option (List ℕ)
-bytes_of null = None
-bytes_of (truth b) = None
-bytes_of (whole n) = None
-bytes_of (real x) = None
 bytes_of (text t) = Some t
-bytes_of (record_number k) = None
+bytes_of _ = None
 
 -- an answer that lends the bytes, or says that there are none
 abbrev pub Shows : Option (List ℕ) → Result (Bor (List ℕ)) Fault → Type 0

@@ -2,8 +2,8 @@
 #![tactic(auto)]
 
 ghost use Rattle.plan.specs.Values.{is_null_value};
-ghost use Rattle.value.specs.Meanings.{Shows, bytes_of, meaning_of};
-ghost use Rattle.std.specs.Prelude.{◌≡◌};
+ghost use Rattle.value.specs.Meanings.{Shows, bytes_of, meaning_of, part_of, side_of};
+ghost use Rattle.std.specs.Prelude.{◌≡◌, option_copied};
 
 use plan::fault::{Fault, Question, Stage};
 
@@ -24,8 +24,23 @@ pub struct Text {
     pub len: u32,
 }
 
+impl Text {
+    /// Its bytes, unless it reaches past the end.
+    fn within<'a>(self, book: &'a [u8], row: &'a [u8]) -> Option<&'a [u8]>
+        ensures { option_copied result ≡ bytes_of (part_of (side_of book.now row.now self.side) self.start self.len) }
+    {
+        let text = match self.side {
+            Side::Book => book,
+            Side::Row => row,
+        };
+        let start = self.start as usize;
+        text.get(start..start + self.len as usize)
+    }
+}
+
 /// What a column of a row holds.
-#[derive(Clone, Copy)]
+// No `==`: it would compare the places of texts, where values are equal by their bytes.
+#[derive(Clone, Copy, Debug)]
 pub enum Value {
     Null,
     Truth(bool),
@@ -38,21 +53,15 @@ pub enum Value {
 
 /// The bytes that a text value names, out of the book's text or the row text. Any other value is refused, and so is
 /// a text that reaches past the end.
+// Two lent slices, not one struct: a named form of the project.
 pub fn shown<'a>(book: &'a [u8], row: &'a [u8], v: Value) -> Result<&'a [u8], Fault>
     ensures { Shows (bytes_of (meaning_of book.now row.now v)) result }
 {
-    if let Value::Text(part) = v {
-        let text = match part.side {
-            Side::Book => book,
-            Side::Row => row,
-        };
-        let start = part.start as usize;
-        let end = start + part.len as usize;
-        if end <= text.len() {
-            return Ok(&text[start..end]);
-        }
-    }
-    Err(Fault {
+    let bytes = match v {
+        Value::Text(part) => part.within(book, row),
+        _ => None,
+    };
+    bytes.ok_or(Fault {
         question: Question::Bounded,
         stage: Stage::Call,
         level: 0,
@@ -65,7 +74,7 @@ pub fn is_null(book: &[u8], row: &[u8], v: Value) -> bool
 {
     match v {
         Value::Null => true,
-        Value::Text(_) => shown(book, row, v).is_err(),
+        Value::Text(part) => part.within(book, row).is_none(),
         _ => false,
     }
 }

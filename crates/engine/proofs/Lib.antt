@@ -1,3 +1,0 @@
-pub mod Texts
-pub mod Shapes
-pub mod Fields
