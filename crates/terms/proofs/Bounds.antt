@@ -1,11 +1,11 @@
 -- How large an acceptable expression's tree is, and how long its rendered name.
-use Rattle.std.proofs.Common.{◌≡◌, ℕ, ◌+◌, ◌*◌, ◌^◌, ◌<◌, ◌≤◌, true, false, not, ◌&&◌, ◌||◌, ltb, leb, ◌⊎◌, [], ◌∷◌, ◌++◌, length, Some, None, Option, ap, inl, inr, arith, length-append}
+use Rattle.std.proofs.Common.{◌≡◌, ℕ, ◌+◌, ◌*◌, ◌^◌, ◌<◌, ◌≤◌, true, false, not, ◌&&◌, ltb, leb, ◌⊎◌, [], ◌∷◌, ◌++◌, length, Some, None, Option, ap, inl, inr, arith, length-append}
 use lib.Signed.{mag}
 use Rattle.std.proofs.lemmas.Fmt.{length_signed_le}
 use Rattle.std.proofs.lemmas.List.{length_push, get_or_past}
 use Rattle.std.proofs.lemmas.Bool.{and_parts, leb-true, ltb-true, eqb-true, cases_lt}
 use Rattle.plan.specs.Names.{Name, good_name, plain, number_of, prefixed}
-use Rattle.plan.specs.Terms.{Qualifier, Field, Literal, Expr, Exprs, is_unqualified, listed, size_of, sizes_of}
+use Rattle.plan.specs.Terms.{Qualifier, Field, Literal, Expr, Exprs, listed, size_of, sizes_of}
 use Rattle.plan.specs.Terms.Qualifier.{unqualified, qualified}
 use Rattle.plan.specs.Terms.Literal.{null, truth, whole, real, text}
 use Rattle.plan.specs.Terms.Expr.{literal, reference, alias, call}
@@ -23,12 +23,6 @@ pub name-short : (n : Name) → good_name n ≡ true → length n ≤ 255
 name-short n h =
     let p = and_parts (ltb 0 (length n) && leb (length n) 255) (plain n && leb (number_of n) 999999999) h in
     leb-true _ _ (and_parts (ltb 0 (length n)) (leb (length n) 255) p.0).1
-
-pub field-parts : (f : Field) → good_field f ≡ true → (good_name f.name ≡ true) × (good_qualifier f.qualifier ≡ true)
-field-parts f h = and_parts (good_name f.name) (good_qualifier f.qualifier) h
-
-pub alias-parts : (f : Field) → good_alias f ≡ true → good_field f ≡ true
-alias-parts f h = (and_parts (good_field f) (not (prefixed f.name) || is_unqualified f.qualifier) h).0
 
 dotted-short : (q : Qualifier) → good_qualifier q ≡ true → length (dotted q) ≤ 256
 dotted-short unqualified h = omega arith

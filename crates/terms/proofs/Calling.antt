@@ -12,7 +12,8 @@ use Rattle.plan.specs.Questions.{small_tree}
 use Rattle.plan.specs.Model.{exprs_in, no_expr}
 use Rattle.plan.specs.Calls.{below, all_below, arity_is}
 use Rattle.terms.specs.Acceptance.{acceptable, all_acceptable}
-use Rattle.terms.specs.Build.{entry_number, numbers_in}
+use Rattle.terms.specs.Build.{numbers_in}
+use Rattle.terms.specs.Entries.{entry_number}
 use Rattle.terms.specs.Views.{numbers_of}
 use Rattle.terms.specs.declared.node.Entry.{Entry}
 use Rattle.terms.specs.declared.node.Entry.TheVariants.{Expression}
@@ -28,12 +29,12 @@ entries-numbers [] = refl
 entries-numbers (e ∷ ids) = ap (λ l. e.0 ∷ l) (entries-numbers ids)
 
 -- a list that was just added names what it was made of
-pub listed-numbers : (es E : List Entry) (ids : List ExprId) (first : ℕ) → E ≡ es ++ map Expression ids → first ≡ length es → numbers_in E first (length ids) ≡ numbers_of ids
-listed-numbers es E ids first e f =
-    ap (λ n. map entry_number (part E first n)) (sym (length-map ids Expression)) ∙ ap (map entry_number) (part-added es (map Expression ids) E first e f) ∙ entries-numbers ids
+pub listed-numbers : (es E : List Entry) (ids : List ExprId) (first count : ℕ) → E ≡ es ++ map Expression ids → first ≡ length es → count ≡ length ids → numbers_in E first count ≡ numbers_of ids
+listed-numbers es E ids first count e f k =
+    ap (λ n. map entry_number (part E first n)) (k ∙ sym (length-map ids Expression)) ∙ ap (map entry_number) (part-added es (map Expression ids) E first e f) ∙ entries-numbers ids
 
-pub listed-inside : (es E : List Entry) (ids : List ExprId) (first : ℕ) → E ≡ es ++ map Expression ids → first ≡ length es → leb (first + length ids) (length E) ≡ true
-listed-inside es E ids first e f = le-leb _ _ (omega (arith, ap length e, length-append es (map Expression ids), length-map ids Expression))
+pub listed-inside : (es E : List Entry) (ids : List ExprId) (first count : ℕ) → E ≡ es ++ map Expression ids → first ≡ length es → count ≡ length ids → leb (first + count) (length E) ≡ true
+listed-inside es E ids first count e f k = le-leb _ _ (omega (arith, ap length e, length-append es (map Expression ids), length-map ids Expression))
 
 pub all-acceptable : (fs : Functions) (ts : List Expr) (ns : List ℕ) → every (acceptable fs) ts ≡ true → all_below (length ts) ns ≡ true → all_acceptable fs (arguments (exprs_in ts ns)) ≡ true
 all-acceptable fs ts [] h b = refl

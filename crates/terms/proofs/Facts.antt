@@ -1,10 +1,9 @@
 -- The facts that a table of expressions keeps, as its parts grow.
-use Rattle.std.proofs.Common.{◌≡◌, ℕ, ◌+◌, ◌<◌, ◌≤◌, Bool, true, false, ◌&&◌, leb, List, [], ◌∷◌, ◌++◌, map, length, get_or, sym, refl, ap, ◌∙◌, ap₂, arith}
+use Rattle.std.proofs.Common.{◌≡◌, ℕ, ◌+◌, ◌<◌, ◌≤◌, true, ◌&&◌, leb, List, [], ◌∷◌, ◌++◌, map, length, get_or, sym, refl, ap, ◌∙◌, ap₂, arith}
 use Rattle.plan.specs.Model.{Space}
 use Rattle.terms.specs.Building.{roomy}
 use Rattle.std.proofs.lemmas.List.{map_push, append-nil, append_assoc, get_or-map}
-use Rattle.std.proofs.lemmas.Bool.{and_from, and_parts, le-leb, lt-leb, leb-true, leb-false}
-use Rattle.table.specs.Contents.{contents}
+use Rattle.std.proofs.lemmas.Bool.{and_from, and_parts, leb-true}
 use Rattle.plan.specs.Terms.{Expr, size_of}
 use Rattle.plan.specs.Functions.{Functions}
 use Rattle.plan.specs.Fields.{every}
@@ -25,7 +24,7 @@ pub record Facts (fs : Functions) (bs : List ℕ) (es : List Entry) (rs : List E
   pub has-sizes : map (λ r. r.size) rs ≡ map size_of (trees bs es rs)
   pub has-widths : map (λ r. r.width) rs ≡ map (width_of fs) (trees bs es rs)
 
-pub facts-of : (t : Terms) → Facts (functions_of t.lexicon) (text_of t.lexicon) (contents t.entries) (contents t.exprs)
+pub facts-of : (t : Terms) → Facts (functions_of t.lexicon) (text_of t.lexicon) t.entries t.exprs
 facts-of t = record { is-sound = t.sound; is-accepted = t.accepted; has-sizes = t.sizes; has-widths = t.widths }
 
 -- the text and the lists grow
@@ -60,8 +59,8 @@ pub same_view : (v : View) (f : Functions) (ts ts' : List Expr) (bs bs' : List �
     → ◌≡◌ {A = View} (record { functions = F; trees = T; bytes = B; entries = E }) (grown v ts' bs' es')
 same_view v f ts ts' bs bs' es es' F T B E p a b c d = cc
 
-pub counted : (t : Terms) → length (view_of t).trees ≡ length (contents t.exprs)
-counted t = trees-length (text_of t.lexicon) (contents t.entries) (contents t.exprs)
+pub counted : (t : Terms) → length (view_of t).trees ≡ length t.exprs
+counted t = trees-length (text_of t.lexicon) t.entries t.exprs
 
 -- what a record keeps of its tree
 pub kept_at : (f : ExprRecord → ℕ) (g : Expr → ℕ) (rs : List ExprRecord) (ts : List Expr) (i : ℕ) (r : ExprRecord) → length ts ≡ length rs → i < length rs → map f rs ≡ map g ts → r ≡ get_or rs i r → f r ≡ g (expr_in ts i)
@@ -73,14 +72,6 @@ pub grown-twice : (v w u : View) (n q : List ℕ) → w ≡ grown v [] n [] → 
 grown-twice v w u n q p r =
     let a : u ≡ grown (grown v [] n []) [] q [] = r ∙ ap (λ x. grown x [] q []) p in
     a ∙ same_view v v.functions v.trees [] v.bytes (n ++ q) v.entries [] v.functions ((v.trees ++ []) ++ []) ((v.bytes ++ n) ++ q) ((v.entries ++ []) ++ []) refl refl (append-nil (v.trees ++ [])) (append_assoc v.bytes n q) (append-nil (v.entries ++ []))
-
--- so much has room exactly if with what is there it does not pass the end
-pub shifted : (m k n N : ℕ) → k + n ≡ N → leb m k ≡ leb (n + m) N
-shifted m k n N h = go (leb m k) refl
-  where
-    go : (b : Bool) → leb m k ≡ b → leb m k ≡ leb (n + m) N
-    go true e = e ∙ sym (le-leb (n + m) N (omega (arith, leb-true m k e)))
-    go false e = e ∙ sym (lt-leb (n + m) N (omega (arith, leb-false m k e)))
 
 -- what room for so much says of each table
 pub roomy-parts : (v : View) (s : Space) → roomy v s ≡ true → (length v.trees + s.exprs ≤ 1024) × (length v.entries + s.entries ≤ 2048) × (length v.bytes + s.bytes ≤ 16384)

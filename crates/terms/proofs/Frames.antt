@@ -5,10 +5,9 @@ use Rattle.table.proofs.Parts.{part-grow}
 use Rattle.plan.specs.Terms.Qualifier.{qualified}
 use Rattle.plan.specs.Terms.Literal.{text}
 use Rattle.plan.specs.Fields.{every}
-use Rattle.terms.specs.Spans.{word, span_in, qualifier_at, qualifier_in, field_at, field_in, literal_at, literal_in, stored_field, stored_in, function_in, functions_in, declaration_in}
-use Rattle.terms.specs.declared.node.Span.{Span}
-use Rattle.terms.specs.declared.node.Qualifier.{Qualifier}
-use Rattle.terms.specs.declared.node.Qualifier.TheVariants.{Unqualified, Qualified}
+use Rattle.terms.specs.Spans.{qualifier_at, qualifier_in, literal_at, literal_in, stored_field, stored_in, function_in, functions_in, declaration_in}
+use Rattle.names.specs.Spans.{word, span_in}
+use Rattle.names.specs.declared.parts.Span.{Span}
 use Rattle.terms.specs.declared.node.Literal.{Literal}
 use Rattle.terms.specs.declared.node.Literal.TheVariants.{Null, Truth, Whole, Real, Text}
 use Rattle.terms.specs.declared.node.StoredField.{StoredField}
@@ -38,15 +37,15 @@ module _ (bs bs' : List ℕ) where
       let le = leb-true (s.start + s.len) (length bs) h in
       (part-grow bs bs' s.start s.len le, le-leb _ _ (omega (arith, length-append bs bs')))
 
-  pub qualifier-grow : (q : Qualifier) → qualifier_in bs q ≡ true → (qualifier_at (bs ++ bs') q ≡ qualifier_at bs q) × (qualifier_in (bs ++ bs') q ≡ true)
-  qualifier-grow Unqualified h = (refl, refl)
-  qualifier-grow (Qualified s) h = (ap qualified (span_grow s h).0, (span_grow s h).1)
+  pub qualifier-grow : (q : Option Span) → qualifier_in bs q ≡ true → (qualifier_at (bs ++ bs') q ≡ qualifier_at bs q) × (qualifier_in (bs ++ bs') q ≡ true)
+  qualifier-grow None h = (refl, refl)
+  qualifier-grow (Some s) h = (ap qualified (span_grow s h).0, (span_grow s h).1)
 
-  pub field-grow : (q : Qualifier) (n : Span) → field_in bs q n ≡ true → (field_at (bs ++ bs') q n ≡ field_at bs q n) × (field_in (bs ++ bs') q n ≡ true)
-  field-grow q n h =
-      let p = and_parts (span_in bs n) (qualifier_in bs q) h in
-      let a = span_grow n p.0 in
-      let b = qualifier-grow q p.1 in
+  pub field-grow : (f : StoredField) → stored_in bs f ≡ true → (stored_field (bs ++ bs') f ≡ stored_field bs f) × (stored_in (bs ++ bs') f ≡ true)
+  field-grow f h =
+      let p = and_parts (span_in bs f.name) (qualifier_in bs f.qualifier) h in
+      let a = span_grow f.name p.0 in
+      let b = qualifier-grow f.qualifier p.1 in
       (ap₂ (λ x y. record { qualifier = x; name = y }) b.0 a.0, and_from _ _ a.1 b.1)
 
   pub literal-grow : (l : Literal) → literal_in bs l ≡ true → (literal_at (bs ++ bs') l ≡ literal_at bs l) × (literal_in (bs ++ bs') l ≡ true)
@@ -74,6 +73,6 @@ module _ (bs bs' : List ℕ) where
   stored-grow [] h = (refl, refl)
   stored-grow (f ∷ fs) h =
       let p = and_parts (stored_in bs f) (every (stored_in bs) fs) h in
-      let a = field-grow f.qualifier f.name p.0 in
+      let a = field-grow f p.0 in
       let b = stored-grow fs p.1 in
       (ap₂ (λ x y. x ∷ y) a.0 b.0, and_from _ _ a.1 b.1)

@@ -7,8 +7,9 @@ use Rattle.plan.specs.Terms.{Expr, arguments}
 use Rattle.plan.specs.Terms.Expr.{literal, reference, alias, call}
 use Rattle.plan.specs.Model.{no_expr, expr_in, exprs_in}
 use Rattle.plan.specs.Calls.{below, all_below}
-use Rattle.terms.specs.Spans.{field_at, field_in}
-use Rattle.terms.specs.Build.{entry_number, numbers_in, build_node, build, trees, inside_node, inside, sound}
+use Rattle.terms.specs.Spans.{stored_field, stored_in}
+use Rattle.terms.specs.Build.{numbers_in, build_node, build, trees, inside_node, inside, sound}
+use Rattle.terms.specs.Entries.{entry_number}
 use Rattle.terms.specs.declared.node.Entry.{Entry}
 use Rattle.terms.specs.declared.node.ExprNode.{ExprNode}
 use Rattle.terms.specs.declared.node.ExprNode.TheVariants.{Constant, Reference, Alias, Call}
@@ -19,15 +20,15 @@ use Rattle.terms.proofs.Frames.{literal-grow, field-grow}
 module _ (bs bs' : List ℕ) (es es' : List Entry) where
   node-grow : (i : ℕ) (n : ExprNode) → inside_node bs es i n ≡ true → (inside_node (bs ++ bs') (es ++ es') i n ≡ true) × ((ts : List Expr) → build_node (bs ++ bs') (es ++ es') ts n ≡ build_node bs es ts n)
   node-grow i (Constant l) h = let a = literal-grow bs bs' l h in (a.1, λ ts. ap literal a.0)
-  node-grow i (Reference q n) h = let a = field-grow bs bs' q n h in (a.1, λ ts. ap reference a.0)
-  node-grow i (Alias inner q n) h =
-      let p = and_parts (ltb inner.0 i) (field_in bs q n) h in
-      let a = field-grow bs bs' q n p.1 in
-      (and_from _ _ p.0 a.1, λ ts. ap (λ f. alias (expr_in ts inner.0) f) a.0)
-  node-grow i (Call f first count) h =
-      let p = and_parts (leb (first + count) (length es)) (all_below i (numbers_in es first count)) h in
-      let le = leb-true (first + count) (length es) p.0 in
-      let e = part-grow es es' first count le in
+  node-grow i (Reference f) h = let a = field-grow bs bs' f h in (a.1, λ ts. ap reference a.0)
+  node-grow i (Alias inner f) h =
+      let p = and_parts (ltb inner.0 i) (stored_in bs f) h in
+      let a = field-grow bs bs' f p.1 in
+      (and_from _ _ p.0 a.1, λ ts. ap (λ g. alias (expr_in ts inner.0) g) a.0)
+  node-grow i (Call f run) h =
+      let p = and_parts (leb (run.first + run.count) (length es)) (all_below i (numbers_in es run.first run.count)) h in
+      let le = leb-true (run.first + run.count) (length es) p.0 in
+      let e = part-grow es es' run.first run.count le in
       (and_from _ _ (le-leb _ _ (omega (arith, length-append es es'))) (ap (λ z. all_below i (map entry_number z)) e ∙ p.1), λ ts. ap (λ z. call f (arguments (exprs_in ts (map entry_number z)))) e)
 
   pub trees-grow : (rs : List ExprRecord) → sound bs es rs ≡ true → (sound (bs ++ bs') (es ++ es') rs ≡ true) × (trees (bs ++ bs') (es ++ es') rs ≡ trees bs es rs)
@@ -62,13 +63,13 @@ picked_same ts us i (j ∷ js) f h =
 
 node-same : (bs : List ℕ) (es : List Entry) (i : ℕ) (n : ExprNode) (ts us : List Expr) → inside_node bs es i n ≡ true → ((k : ℕ) → k < i → expr_in ts k ≡ expr_in us k) → build_node bs es ts n ≡ build_node bs es us n
 node-same bs es i (Constant l) ts us h f = refl
-node-same bs es i (Reference q n) ts us h f = refl
-node-same bs es i (Alias inner q n) ts us h f =
-    let p = and_parts (ltb inner.0 i) (field_in bs q n) h in
-    ap (λ t. alias t (field_at bs q n)) (f inner.0 (ltb-true inner.0 i p.0))
-node-same bs es i (Call g first count) ts us h f =
-    let p = and_parts (leb (first + count) (length es)) (all_below i (numbers_in es first count)) h in
-    ap (λ z. call g (arguments z)) (picked_same ts us i (numbers_in es first count) f p.1)
+node-same bs es i (Reference r) ts us h f = refl
+node-same bs es i (Alias inner r) ts us h f =
+    let p = and_parts (ltb inner.0 i) (stored_in bs r) h in
+    ap (λ t. alias t (stored_field bs r)) (f inner.0 (ltb-true inner.0 i p.0))
+node-same bs es i (Call g run) ts us h f =
+    let p = and_parts (leb (run.first + run.count) (length es)) (all_below i (numbers_in es run.first run.count)) h in
+    ap (λ z. call g (arguments z)) (picked_same ts us i (numbers_in es run.first run.count) f p.1)
 
 pub tree-at : (bs : List ℕ) (es : List Entry) (rs : List ExprRecord) (i : ℕ) (d : ExprRecord) → sound bs es rs ≡ true → i < length rs
     → (expr_in (trees bs es rs) i ≡ build bs es (trees bs es rs) (get_or rs i d)) × (inside bs es i (get_or rs i d) ≡ true)

@@ -1,31 +1,41 @@
 -- What a walk over an expression goes by: the arguments of a call, and what a call's references are.
-use Rattle.std.proofs.Common.{◌≡◌, ℕ, ◌+◌, ◌<◌, ◌≤◌, Bool, true, false, ◌&&◌, ◌||◌, eqb, leb, List, [], ◌∷◌, ◌++◌, length, get_or, count_by, sym, refl, ap, ◌∙◌, arith}
+use Rattle.std.proofs.Common.{◌≡◌, ℕ, ◌+◌, ◌<◌, ◌≤◌, Bool, true, false, ◌&&◌, ◌||◌, leb, List, [], ◌∷◌, ◌++◌, map, length, get_or, refl, ap, ◌∙◌, arith}
 use Rattle.std.proofs.lemmas.List.{length-map, get_or-map}
-use Rattle.std.proofs.lemmas.Bool.{and_parts, leb-true, ltb-true, le-ltb, lt-ltb, eq-eqb, ne_eqb}
-use Rattle.std.proofs.lemmas.List.Sums.{sum_by-append}
+use Rattle.std.proofs.lemmas.Bool.{and_parts, leb-true, ltb-true}
+use Rattle.std.specs.List.{list_all, list_any}
 use Rattle.table.specs.Contents.{part}
 use Rattle.table.proofs.Parts.{length_part}
 use Rattle.plan.specs.Terms.{Field, Expr, arguments, references_of, references_of_all}
 use Rattle.plan.specs.Fields.{any, every, resolves, resolved}
 use Rattle.plan.specs.Calls.{below, all_below}
-use Rattle.terms.specs.Build.{entry_number, numbers_in, inside_node}
+use Rattle.terms.specs.Build.{numbers_in, inside_node}
+use Rattle.terms.specs.Entries.{entry_number}
 use Rattle.terms.specs.Views.{numbers_of}
 use Rattle.terms.specs.declared.node.Entry.{Entry}
 use Rattle.terms.specs.declared.node.ExprId.{ExprId}
 use Rattle.terms.specs.declared.node.ExprNode.TheVariants.{Call}
+use Rattle.terms.specs.declared.node.Run.{Run}
 use Rattle.terms.proofs.Frames.{every-at}
 
-pub record Called (es : List Entry) (e first count : ℕ) : Type 0 where
-  pub long : first + count ≤ length es
-  pub counts : length (numbers_in es first count) ≡ count
-  pub lower : (k : ℕ) → k < count → get_or (numbers_in es first count) k 0 < e
+pub record Called (es : List Entry) (e : ℕ) (run : Run) : Type 0 where
+  pub long : run.first + run.count ≤ length es
+  pub counts : length (numbers_in es run.first run.count) ≡ run.count
+  pub lower : (k : ℕ) → k < run.count → get_or (numbers_in es run.first run.count) k 0 < e
 
-pub called : (bs : List ℕ) (es : List Entry) (e f first count : ℕ) → inside_node bs es e (Call f first count) ≡ true → Called es e first count
-called bs es e f first count h =
-    let p = and_parts (leb (first + count) (length es)) (all_below e (numbers_in es first count)) h in
-    let l = leb-true (first + count) (length es) p.0 in
-    let n : length (numbers_in es first count) ≡ count = length-map (part es first count) entry_number ∙ length_part es first count l in
-    record { long = l; counts = n; lower = λ k lt. ltb-true _ _ (every-at (below e) (numbers_in es first count) k 0 (omega arith) p.1) }
+pub called : (bs : List ℕ) (es : List Entry) (e f : ℕ) (run : Run) → inside_node bs es e (Call f run) ≡ true → Called es e run
+called bs es e f run h =
+    let ns = numbers_in es run.first run.count in
+    let p = and_parts (leb (run.first + run.count) (length es)) (all_below e ns) h in
+    let l = leb-true (run.first + run.count) (length es) p.0 in
+    let n : length ns ≡ run.count = length-map (part es run.first run.count) entry_number ∙ length_part es run.first run.count l in
+    record { long = l; counts = n; lower = λ k lt. ltb-true _ _ (every-at (below e) ns k 0 (omega arith) p.1) }
+
+-- an entry of a call's list names a lower number
+pub listed_lower : (bs : List ℕ) (es xs : List Entry) (e f : ℕ) (run : Run) (i : ℕ) (d : Entry) → inside_node bs es e (Call f run) ≡ true → xs ≡ part es run.first run.count → i < length xs → entry_number (get_or xs i d) < e
+listed_lower bs es xs e f run i d h p lt =
+    let a = called bs es e f run h in
+    let l : i < run.count = omega (arith, lt, ap length p, length_part es run.first run.count a.long) in
+    omega (arith, a.lower i l, ap (λ ys. get_or (map entry_number ys) i 0) p, get_or-map entry_number xs i d 0 lt)
 
 pub every-both : {X : Type 0} (p : X → Bool) (xs ys : List X) → every p (xs ++ ys) ≡ (every p xs && every p ys)
 every-both p [] ys = refl
@@ -35,29 +45,24 @@ every-both p (x ∷ xs) ys = ap (λ b. p x && b) (every-both p xs ys) ∙ and_as
     and_assoc true b c = refl
     and_assoc false b c = refl
 
-pub any-both : {X : Type 0} (p : X → Bool) (xs ys : List X) → any p (xs ++ ys) ≡ (any p xs || any p ys)
-any-both p [] ys = refl
-any-both p (x ∷ xs) ys = ap (λ b. p x || b) (any-both p xs ys) ∙ or_assoc (p x) (any p xs) (any p ys)
-  where
-    or_assoc : (a b c : Bool) → (a || (b || c)) ≡ ((a || b) || c)
-    or_assoc true b c = refl
-    or_assoc false b c = refl
+-- a test of each item, or of one, as a chain makes it
+pub every-mapped : {X Y : Type 0} (p : Y → Bool) (f : X → Y) (xs : List X) → list_all (λ x. p (f x)) xs ≡ every p (map f xs)
+every-mapped p f [] = refl
+every-mapped p f (x ∷ xs) = ap (λ b. p (f x) && b) (every-mapped p f xs)
+
+pub any-mapped : {X Y : Type 0} (p : Y → Bool) (f : X → Y) (xs : List X) → list_any (λ x. p (f x)) xs ≡ any p (map f xs)
+any-mapped p f [] = refl
+any-mapped p f (x ∷ xs) = ap (λ b. p (f x) || b) (any-mapped p f xs)
+
+pub any-moved : {X Y : Type 0} (p : Y → Bool) (f : X → Y) (xs : List X) → any (λ x. p (f x)) xs ≡ any p (map f xs)
+any-moved p f [] = refl
+any-moved p f (x ∷ xs) = ap (λ b. p (f x) || b) (any-moved p f xs)
 
 -- a call's references are those of its arguments
 pub resolved-arguments : (fs : List Field) (ts : List Expr) → every (resolves fs) (references_of_all (arguments ts)) ≡ every (resolved fs) ts
 resolved-arguments fs [] = refl
 resolved-arguments fs (t ∷ ts) =
     every-both (resolves fs) (references_of t) (references_of_all (arguments ts)) ∙ ap (λ b. resolved fs t && b) (resolved-arguments fs ts)
-
-pub count-both : {X : Type 0} (p : X → Bool) (xs ys : List X) → count_by p (xs ++ ys) ≡ count_by p xs + count_by p ys
-count-both p xs ys = sum_by-append (λ x. mathlib.Core.Bool.cond (p x) 1 0) xs ys
-
-pub same_number : (m n : ℕ) → (m ≡ 1 → n ≡ 1) → (n ≡ 1 → m ≡ 1) → eqb m 1 ≡ eqb n 1
-same_number m n p q = go (eqb m 1) refl
-  where
-    go : (b : Bool) → eqb m 1 ≡ b → eqb m 1 ≡ eqb n 1
-    go true e = e ∙ sym (eq-eqb n 1 (p (Rattle.std.proofs.lemmas.Bool.eqb-true m 1 e)))
-    go false e = e ∙ sym (ne_eqb n 1 (λ h. Rattle.std.proofs.lemmas.Bool.eqb-false m 1 e (q h)))
 
 -- an expression of a list whose numbers all stand in the book
 pub one_below : (n : ℕ) (ids : List ExprId) (i : ℕ) (d : ExprId) → i < length ids → all_below n (numbers_of ids) ≡ true → (get_or ids i d).0 < n

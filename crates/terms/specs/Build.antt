@@ -10,27 +10,21 @@ use Rattle.plan.specs.Functions.{Functions}
 use Rattle.plan.specs.Rendering.{rendered}
 use Rattle.plan.specs.Model.{expr_in, exprs_in}
 use Rattle.plan.specs.Calls.{all_below}
-use Rattle.terms.specs.Spans.{literal_at, literal_in, field_at, field_in}
+use Rattle.terms.specs.Entries.{entry_number}
+use Rattle.terms.specs.Spans.{literal_at, literal_in, stored_field, stored_in}
 use Rattle.terms.specs.declared.node.Entry.{Entry}
-use Rattle.terms.specs.declared.node.Entry.TheVariants.{Expression, Key, Input}
 use Rattle.terms.specs.declared.node.ExprNode.{ExprNode}
 use Rattle.terms.specs.declared.node.ExprNode.TheVariants.{Constant, Reference, Alias, Call}
 use Rattle.terms.specs.declared.node.ExprRecord.{ExprRecord}
-
--- the number that an entry names
-abbrev pub entry_number : Entry → ℕ
-entry_number (Expression e) = e.0
-entry_number (Key e d) = e.0
-entry_number (Input p) = p.0
 
 abbrev pub numbers_in : List Entry → ℕ → ℕ → List ℕ
 numbers_in entries first count = map entry_number (part entries first count)
 
 abbrev pub build_node : List ℕ → List Entry → List Expr → ExprNode → Expr
 build_node bytes entries ts (Constant l) = literal (literal_at bytes l)
-build_node bytes entries ts (Reference q n) = reference (field_at bytes q n)
-build_node bytes entries ts (Alias inner q n) = alias (expr_in ts inner.0) (field_at bytes q n)
-build_node bytes entries ts (Call f first count) = call f (arguments (exprs_in ts (numbers_in entries first count)))
+build_node bytes entries ts (Reference f) = reference (stored_field bytes f)
+build_node bytes entries ts (Alias inner f) = alias (expr_in ts inner.0) (stored_field bytes f)
+build_node bytes entries ts (Call f run) = call f (arguments (exprs_in ts (numbers_in entries run.first run.count)))
 
 abbrev pub build : List ℕ → List Entry → List Expr → ExprRecord → Expr
 build bytes entries ts r = build_node bytes entries ts r.node
@@ -40,9 +34,9 @@ trees bytes entries rs = built (build bytes entries) [] rs
 
 abbrev pub inside_node : List ℕ → List Entry → ℕ → ExprNode → Bool
 inside_node bytes entries i (Constant l) = literal_in bytes l
-inside_node bytes entries i (Reference q n) = field_in bytes q n
-inside_node bytes entries i (Alias inner q n) = nat_lt inner.0 i && field_in bytes q n
-inside_node bytes entries i (Call f first count) = nat_le (first + count) (length entries) && all_below i (numbers_in entries first count)
+inside_node bytes entries i (Reference f) = stored_in bytes f
+inside_node bytes entries i (Alias inner f) = nat_lt inner.0 i && stored_in bytes f
+inside_node bytes entries i (Call f run) = nat_le (run.first + run.count) (length entries) && all_below i (numbers_in entries run.first run.count)
 
 abbrev pub inside : List ℕ → List Entry → ℕ → ExprRecord → Bool
 inside bytes entries i r = inside_node bytes entries i r.node

@@ -1,13 +1,12 @@
 -- What a lexicon holds; cited by src/lexicon and by the expressions above it.
 --     text_of x, functions_of x      its bytes; the declarations under their numbers
 use Rattle.std.specs.Prelude.{◌≡◌, ℕ, List, ◌++◌}
-use Rattle.table.specs.Contents.{contents}
 use Rattle.plan.specs.Functions.{Functions}
 use Rattle.terms.specs.Spans.{functions_in}
 use Rattle.terms.specs.declared.lexicon.Lexicon.{Lexicon}
 
 abbrev pub text_of : Lexicon → List ℕ
-text_of x = contents x.text
+text_of x = x.text
 
 abbrev pub functions_of : Lexicon → Functions
 functions_of x = functions_in (text_of x) x.functions

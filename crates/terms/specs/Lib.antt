@@ -1,3 +1,4 @@
+pub mod Entries
 pub mod Spans
 pub mod Acceptance
 pub mod Build

@@ -1,41 +1,26 @@
--- What spans of the text stand for.
---     word bytes s, span_in bytes s      the part of the text that a span names; whether it is inside
---     qualifier_at, field_at, literal_at, function_in      the same of what holds spans
-use Rattle.std.specs.Prelude.{ℕ, ◌+◌, ◌^◌, Bool, true, false, ◌&&◌, List, map, length, Some, None, Option, nat_le, nat_lt}
+-- What holds spans of the text, and what it stands for.
+--     qualifier_at, stored_field, literal_at, function_in      what it stands for
+--     qualifier_in, stored_in, literal_in, declaration_in      whether its spans are inside
+use Rattle.std.specs.Prelude.{ℕ, ◌^◌, Bool, true, false, ◌&&◌, List, map, Some, None, Option, nat_lt}
 use Rattle.std.specs.Int.Signed.{mag}
-use Rattle.table.specs.Contents.{part}
-use Rattle.plan.specs.Names.{Name}
-use Rattle.plan.specs.Terms.{Field, Qualifier as Owner, Literal as Constant}
+use Rattle.names.specs.Spans.{word, span_in}
+use Rattle.names.specs.declared.parts.Span.{Span}
+use Rattle.plan.specs.Terms.{Field, Qualifier, Literal as Constant}
 use Rattle.plan.specs.Terms.Qualifier.{unqualified, qualified}
 use Rattle.plan.specs.Terms.Literal.{null, truth, whole, real, text}
 use Rattle.plan.specs.Functions.{Function, Functions}
-use Rattle.terms.specs.declared.node.Span.{Span}
-use Rattle.terms.specs.declared.node.Qualifier.{Qualifier}
-use Rattle.terms.specs.declared.node.Qualifier.TheVariants.{Unqualified, Qualified}
 use Rattle.terms.specs.declared.node.Literal.{Literal}
 use Rattle.terms.specs.declared.node.Literal.TheVariants.{Null, Truth, Whole, Real, Text}
 use Rattle.terms.specs.declared.node.StoredField.{StoredField}
 use Rattle.terms.specs.declared.node.Declaration.{Declaration}
 
-abbrev pub word : List ℕ → Span → Name
-word bytes s = part bytes s.start s.len
+abbrev pub qualifier_at : List ℕ → Option Span → Qualifier
+qualifier_at bytes None = unqualified
+qualifier_at bytes (Some s) = qualified (word bytes s)
 
-abbrev pub span_in : List ℕ → Span → Bool
-span_in bytes s = nat_le (s.start + s.len) (length bytes)
-
-abbrev pub qualifier_at : List ℕ → Qualifier → Owner
-qualifier_at bytes Unqualified = unqualified
-qualifier_at bytes (Qualified s) = qualified (word bytes s)
-
-abbrev pub qualifier_in : List ℕ → Qualifier → Bool
-qualifier_in bytes Unqualified = true
-qualifier_in bytes (Qualified s) = span_in bytes s
-
-abbrev pub field_at : List ℕ → Qualifier → Span → Field
-field_at bytes q n = record { qualifier = qualifier_at bytes q; name = word bytes n }
-
-abbrev pub field_in : List ℕ → Qualifier → Span → Bool
-field_in bytes q n = span_in bytes n && qualifier_in bytes q
+abbrev pub qualifier_in : List ℕ → Option Span → Bool
+qualifier_in bytes None = true
+qualifier_in bytes (Some s) = span_in bytes s
 
 abbrev pub literal_at : List ℕ → Literal → Constant
 literal_at bytes Null = null
@@ -52,10 +37,10 @@ literal_in bytes (Real x) = true
 literal_in bytes (Text s) = span_in bytes s
 
 abbrev pub stored_field : List ℕ → StoredField → Field
-stored_field bytes f = field_at bytes f.qualifier f.name
+stored_field bytes f = record { qualifier = qualifier_at bytes f.qualifier; name = word bytes f.name }
 
 abbrev pub stored_in : List ℕ → StoredField → Bool
-stored_in bytes f = field_in bytes f.qualifier f.name
+stored_in bytes f = span_in bytes f.name && qualifier_in bytes f.qualifier
 
 abbrev pub function_in : List ℕ → Option Declaration → Option Function
 function_in bytes None = None

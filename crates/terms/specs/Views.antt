@@ -2,11 +2,12 @@
 --     View, view_of t      functions, trees, text and lists; those that t holds
 --     grown v ts bs es      the view with these trees, bytes and entries behind
 --     tree_of t e      the tree of an expression
-use Rattle.std.specs.Prelude.{ℕ, List, ◌++◌, map, length}
-use Rattle.table.specs.Contents.{contents}
-use Rattle.plan.specs.Terms.{Expr}
+--     AllPresent t ids, arguments_of t ids      expressions that stand in t; their trees as arguments
+use Rattle.std.specs.Prelude.{◌≡◌, ℕ, true, List, ◌++◌, map, length}
+use Rattle.plan.specs.Calls.{all_below}
+use Rattle.plan.specs.Terms.{Expr, Exprs, arguments}
 use Rattle.plan.specs.Functions.{Functions}
-use Rattle.plan.specs.Model.{expr_in}
+use Rattle.plan.specs.Model.{expr_in, exprs_in}
 use Rattle.terms.specs.Build.{trees, build_node}
 use Rattle.terms.specs.Lexicon.{text_of, functions_of}
 use Rattle.terms.specs.declared.node.Entry.{Entry}
@@ -23,9 +24,9 @@ pub record View : Type 0 where
 abbrev pub view_of : Terms → View
 view_of t = record {
   functions = functions_of t.lexicon;
-  trees = trees (text_of t.lexicon) (contents t.entries) (contents t.exprs);
+  trees = trees (text_of t.lexicon) t.entries t.exprs;
   bytes = text_of t.lexicon;
-  entries = contents t.entries;
+  entries = t.entries;
 }
 
 abbrev pub grown : View → List Expr → List ℕ → List Entry → View
@@ -44,3 +45,11 @@ tree_for t n = build_node (view_of t).bytes (view_of t).entries (view_of t).tree
 -- the numbers of a list of expressions
 abbrev pub numbers_of : List ExprId → List ℕ
 numbers_of ids = map (λ e. e.0) ids
+
+-- each of a list of expressions stands in the book
+abbrev pub AllPresent : Terms → List ExprId → Type 0
+AllPresent t ids = all_below (count t) (numbers_of ids) ≡ true
+
+-- their trees, as arguments of a call
+abbrev pub arguments_of : Terms → List ExprId → Exprs
+arguments_of t ids = arguments (exprs_in (view_of t).trees (numbers_of ids))

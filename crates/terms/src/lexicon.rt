@@ -1,9 +1,8 @@
 //! The declared functions and the text; the methods stand below, so that they can cite `specs/Lexicon.antt`.
 ghost use Rattle.plan.specs.Fields.{every};
-ghost use Rattle.table.specs.Contents.{contents};
 ghost use Rattle.terms.specs.Acceptance.{good_function};
 ghost use Rattle.terms.specs.Spans.{declaration_in, functions_in};
-ghost use Rattle.std.specs.Prelude.{◌≡◌, true, length};
+ghost use Rattle.std.specs.Prelude.{◌≡◌, ◌≤◌, true, length};
 
 use crate::node::Declaration;
 use table::table::Table;
@@ -16,6 +15,7 @@ pub struct Lexicon {
     functions: [Option<Declaration>; 64],
     text: Table<u8, 16384>,
     ghost long: { length functions ≡ 64 },
-    ghost inside: { every (declaration_in (contents text)) functions ≡ true },
-    ghost good: { every good_function (functions_in (contents text) functions) ≡ true },
+    ghost fits: { length text ≤ 16384 },
+    ghost inside: { every (declaration_in text) functions ≡ true },
+    ghost good: { every good_function (functions_in text functions) ≡ true },
 }

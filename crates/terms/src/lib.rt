@@ -2,5 +2,6 @@
 #![tactic(auto)]
 
 pub mod lexicon;
+pub mod listed;
 pub mod node;
 pub mod terms;

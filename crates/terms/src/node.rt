@@ -1,12 +1,6 @@
 //! What one place of the tables holds.
+pub use names::parts::Span;
 use plan::code::{Direction, Rule};
-
-/// A part of the book's text.
-#[derive(Clone, Copy)]
-pub struct Span {
-    pub start: u32,
-    pub len: u32,
-}
 
 /// An expression, by its number.
 #[derive(Clone, Copy, PartialEq, Eq, Debug)]
@@ -16,11 +10,11 @@ pub struct ExprId(pub u32);
 #[derive(Clone, Copy, PartialEq, Eq, Debug)]
 pub struct PlanId(pub u32);
 
-/// Which relation a column is of, if that is said.
-#[derive(Clone, Copy)]
-pub enum Qualifier {
-    Unqualified,
-    Qualified(Span),
+/// A part of a table: the list table, or the field table.
+#[derive(Clone, Copy, PartialEq, Eq, Debug)]
+pub struct Run {
+    pub first: u32,
+    pub count: u32,
 }
 
 /// A constant.
@@ -37,20 +31,9 @@ pub enum Literal {
 #[derive(Clone, Copy)]
 pub enum ExprNode {
     Constant(Literal),
-    Reference {
-        qualifier: Qualifier,
-        name: Span,
-    },
-    Alias {
-        inner: ExprId,
-        qualifier: Qualifier,
-        name: Span,
-    },
-    Call {
-        function: u8,
-        first: u32,
-        count: u32,
-    },
+    Reference(StoredField),
+    Alias { inner: ExprId, field: StoredField },
+    Call { function: u8, arguments: Run },
 }
 
 /// A node with the size of its tree and the length of its rendered name.
@@ -69,10 +52,10 @@ pub enum Entry {
     Input(PlanId),
 }
 
-/// A column of a plan.
+/// A column: its name, and of which relation it is, if that is said.
 #[derive(Clone, Copy)]
 pub struct StoredField {
-    pub qualifier: Qualifier,
+    pub qualifier: Option<Span>,
     pub name: Span,
 }
 

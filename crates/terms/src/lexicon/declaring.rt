@@ -1,13 +1,12 @@
 //! How a function is declared.
 ghost use Rattle.std.specs.Prelude.{◌≡◌, ◌+◌, ◌<◌, true, not, ◌&&◌, length, is_some, Some, nat_le, nat_lt, slice_set};
-ghost use Rattle.plan.specs.Codes.{rule_of};
-ghost use Rattle.plan.specs.Declaring.{rule_given};
 ghost use Rattle.plan.specs.Functions.{function_at};
 ghost use Rattle.plan.specs.Names.{good_name, prefixed};
 ghost use Rattle.terms.specs.Acceptance.{good_function};
 ghost use Rattle.terms.specs.Declaring.{DeclareAnswered};
 ghost use Rattle.terms.specs.Lexicon.{functions_of, text_of};
-ghost use Rattle.terms.specs.Spans.{function_in, span_in};
+ghost use Rattle.terms.specs.Spans.{function_in};
+ghost use Rattle.names.specs.Spans.{span_in};
 
 use super::Lexicon;
 use crate::node::Declaration;
@@ -22,25 +21,12 @@ fn names_function(name: &[u8]) -> bool
     good_name(name) && !is_prefixed(name)
 }
 
-/// The rule of a number, and the first where there is none.
-fn rule_given(n: u8) -> Rule
-    ensures { result ≡ rule_given (rule_of n) }
-{
-    Rule::from_number(n).unwrap_or(Rule::Stay)
-}
-
 impl Lexicon {
     /// Whether a number can be declared and is not yet.
     fn is_free(&self, number: u8) -> bool
         ensures { result ≡ (nat_lt number 64 && not (is_some (function_at (functions_of self.now) number))) }
     {
         number < 64 && self.function(number).is_none()
-    }
-
-    fn is_bounded(&self, number: u8, arity: u8, rule: u8) -> bool
-        ensures { result ≡ ((nat_lt number 64 && not (is_some (function_at (functions_of self.now) number))) && (nat_le arity 4 && is_some (rule_of rule))) }
-    {
-        self.is_free(number) && (arity <= 4 && Rule::from_number(rule).is_some())
     }
 
     fn has_room(&self, bytes: usize) -> bool
@@ -60,6 +46,7 @@ impl Lexicon {
     }
 
     /// Declares a function under a number that is free.
+    // The rule comes as its number, since outside a book codes and refusals are known by number.
     pub fn declare(
         &mut self,
         number: u8,
@@ -71,12 +58,13 @@ impl Lexicon {
         ensures { DeclareAnswered self.old number name.now arity rule strict result self.new }
     {
         ask(names_function(name), Question::Named)?;
-        ask(self.is_bounded(number, arity, rule), Question::Bounded)?;
+        ask(self.is_free(number) && arity <= 4, Question::Bounded)?;
+        let rule = Rule::try_from(rule)?;
         ask(self.has_room(name.len()), Question::Space)?;
         let function = Declaration {
             name: self.write(name),
             arity,
-            rule: rule_given(rule),
+            rule,
             strict,
         };
         self.set_function(number, function);

@@ -2,7 +2,8 @@
 ghost use Rattle.std.specs.Prelude.{◌≡◌, ◌+◌, ◌<◌, ◌≤◌, true, [], ◌++◌, length, replicate, None};
 ghost use Rattle.plan.specs.Functions.{function_at};
 ghost use Rattle.terms.specs.Lexicon.{functions_of, text_of};
-ghost use Rattle.terms.specs.Spans.{declaration_in, function_in, span_in, word};
+ghost use Rattle.terms.specs.Spans.{declaration_in, function_in};
+ghost use Rattle.names.specs.Spans.{span_in, word};
 
 use super::Lexicon;
 use crate::node::{Declaration, Span};
@@ -63,10 +64,7 @@ impl Lexicon {
         ensures value { function_in (text_of self.now) result ≡ function_at (functions_of self.now) number }
         ensures inside { declaration_in (text_of self.now) result ≡ true }
     {
-        if number >= 64 {
-            return None;
-        }
-        self.functions[number as usize]
+        self.functions.get(number as usize).copied().flatten()
     }
 
     /// The whole text.

@@ -1,25 +1,25 @@
 //! How the tables of expressions grow: one name, one list, one node.
-ghost use Rattle.std.specs.Prelude.{◌≡◌, ◌+◌, ◌<◌, ◌≤◌, true, [], ◌∷◌, ◌++◌, map, length, replicate};
+ghost use Rattle.std.specs.Prelude.{◌≡◌, ◌+◌, ◌<◌, ◌≤◌, true, [], ◌∷◌, ◌++◌, map, length};
 ghost use Rattle.plan.specs.Terms.{size_of};
-ghost use Rattle.table.specs.Contents.{contents};
 ghost use Rattle.terms.specs.Acceptance.{acceptable};
 ghost use Rattle.terms.specs.Build.{inside_node, width_of};
 ghost use Rattle.terms.specs.Lexicon.{functions_of, text_of};
-ghost use Rattle.terms.specs.Spans.{span_in, word};
+ghost use Rattle.names.specs.Spans.{span_in, word};
 ghost use Rattle.terms.specs.Views.{count, grown, tree_for, view_of};
-ghost use Rattle.terms.specs.declared.node.Entry.TheVariants.{Expression};
 
 use super::Terms;
 use crate::lexicon::Lexicon;
-use crate::node::{Entry, ExprId, ExprNode, ExprRecord, Literal, Span};
+use crate::listed::Listed;
+use crate::node::{Entry, ExprId, ExprNode, ExprRecord, Literal, Run, Span};
 use table::table::Table;
 
-fn push_exprs(entries: &mut Table<Entry, 2048>, ids: &[ExprId])
-    requires { length (contents entries.old) + length ids.now ≤ 2048 }
-    ensures { contents entries.new ≡ contents entries.old ++ map Expression ids.now }
+/// Adds what items are stored as.
+fn push_entries<T: Listed>(entries: &mut Table<Entry, 2048>, items: &[T])
+    requires { length entries.old + length items.now ≤ 2048 }
+    ensures { entries.new ≡ entries.old ++ map T.entry items.now }
 {
-    for id in ids {
-        entries.push(Entry::Expression(*id));
+    for item in items {
+        entries.push((*item).entry());
     }
 }
 
@@ -53,26 +53,19 @@ impl Terms {
         self.lexicon.write(bytes)
     }
 
-    /// Adds a list of expressions to the lists.
-    pub fn list(&mut self, ids: &[ExprId]) -> u32
-        requires { length (view_of self.old).entries + length ids.now ≤ 2048 }
-        ensures view { view_of self.new ≡ grown (view_of self.old) [] [] (map Expression ids.now) }
-        ensures first { result ≡ length (view_of self.old).entries }
+    /// Adds a list to the lists.
+    pub fn list<T: Listed>(&mut self, items: &[T]) -> Run
+        requires { length (view_of self.old).entries + length items.now ≤ 2048 }
+        ensures view { view_of self.new ≡ grown (view_of self.old) [] [] (map T.entry items.now) }
+        ensures first { result.first ≡ length (view_of self.old).entries }
+        ensures count { result.count ≡ length items.now }
     {
         let first = self.entries.len() as u32;
-        push_exprs(&mut self.entries, ids);
-        first
-    }
-
-    /// Adds entries to the lists.
-    pub fn list_entries(&mut self, new: &[Entry]) -> u32
-        requires { length (view_of self.old).entries + length new.now ≤ 2048 }
-        ensures view { view_of self.new ≡ grown (view_of self.old) [] [] new.now }
-        ensures first { result ≡ length (view_of self.old).entries }
-    {
-        let first = self.entries.len() as u32;
-        self.entries.extend(new);
-        first
+        push_entries(&mut self.entries, items);
+        Run {
+            first,
+            count: items.len() as u32,
+        }
     }
 
     /// Adds a node, with the size of its tree and the length of its rendered name.

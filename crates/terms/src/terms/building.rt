@@ -13,59 +13,44 @@ ghost use Rattle.terms.specs.Spans.{literal_at, plain_literal, stored_field, sto
 ghost use Rattle.terms.specs.Views.{count, grown, tree_of, view_of};
 
 use super::Terms;
-use crate::node::{ExprId, ExprNode, Literal, Qualifier, StoredField};
+use crate::node::{ExprId, ExprNode, Literal, StoredField};
 use names::{good_name, is_prefixed, signed_len};
 use plan::fault::{Fault, Question, ask};
 use table::table::Table;
 
-fn good_qualifier(qualifier: Option<&[u8]>) -> bool
-    ensures { result ≡ good_qualifier (given_qualifier qualifier.entry) }
-{
-    match qualifier {
-        None => true,
-        Some(q) => good_name(q),
+/// A name and a qualifier, as a caller gives them.
+#[derive(Clone, Copy)]
+struct GivenField<'a> {
+    name: &'a [u8],
+    qualifier: Option<&'a [u8]>,
+}
+
+impl GivenField<'_> {
+    fn is_good(self) -> bool
+        ensures { result ≡ good_field (given_field self.entry.name.now self.entry.qualifier) }
+    {
+        good_name(self.name) && self.qualifier.is_none_or(|q| good_name(q))
     }
-}
 
-fn good_field(name: &[u8], qualifier: Option<&[u8]>) -> bool
-    ensures { result ≡ good_field (given_field name.now qualifier.entry) }
-{
-    good_name(name) && good_qualifier(qualifier)
-}
-
-fn good_alias(name: &[u8], qualifier: Option<&[u8]>) -> bool
-    ensures { result ≡ good_alias (given_field name.now qualifier.entry) }
-{
-    good_field(name, qualifier) && (!is_prefixed(name) || qualifier.is_none())
-}
-
-fn qualifier_len(qualifier: Option<&[u8]>) -> usize
-    requires { good_qualifier (given_qualifier qualifier) ≡ true }
-    ensures value { result ≡ qualifier_bytes (given_qualifier qualifier.entry) }
-    ensures bound { result ≤ 255 }
-{
-    match qualifier {
-        None => 0,
-        Some(q) => q.len(),
+    /// Whether an alias may have this name and this qualifier.
+    fn is_good_alias(self) -> bool
+        ensures { result ≡ good_alias (given_field self.entry.name.now self.entry.qualifier) }
+    {
+        self.is_good() && (!is_prefixed(self.name) || self.qualifier.is_none())
     }
-}
 
-/// How many bytes a name and a qualifier take in the text.
-fn field_len(name: &[u8], qualifier: Option<&[u8]>) -> usize
-    requires { good_field (given_field name.now qualifier) ≡ true }
-    ensures { result ≡ length name.now + qualifier_bytes (given_qualifier qualifier.entry) }
-{
-    name.len() + qualifier_len(qualifier)
-}
+    /// How many bytes they take in the text.
+    fn len(self) -> usize
+        ensures { result ≡ length self.entry.name.now + qualifier_bytes (given_qualifier self.entry.qualifier) }
+    {
+        self.name.len() + self.qualifier.map_or(0, |q| q.len())
+    }
 
-/// How long a reference's rendered name is.
-fn field_width(name: &[u8], qualifier: Option<&[u8]>) -> u32
-    requires { good_field (given_field name.now qualifier) ≡ true }
-    ensures { result ≡ length (dotted (given_qualifier qualifier.entry) ++ name.now) }
-{
-    match qualifier {
-        None => name.len() as u32,
-        Some(q) => (q.len() + 1 + name.len()) as u32,
+    /// How long a reference's rendered name is.
+    fn width(self) -> usize
+        ensures { result ≡ length (dotted (given_qualifier self.entry.qualifier) ++ self.entry.name.now) }
+    {
+        self.name.len() + self.qualifier.map_or(0, |q| q.len() + 1)
     }
 }
 
@@ -74,15 +59,7 @@ impl Terms {
     fn has_room(&self, entries: usize, bytes: usize) -> bool
         ensures { result ≡ roomy (view_of self.now) (space 1 0 entries 0 bytes) }
     {
-        let exprs = self.exprs.room();
-        if exprs < 1 {
-            return false;
-        }
-        let lists = self.entries.room();
-        if lists < entries {
-            return false;
-        }
-        self.lexicon.room() >= bytes
+        self.exprs.room() >= 1 && self.entries.room() >= entries && self.lexicon.room() >= bytes
     }
 
     pub(super) fn ask_room(&self, entries: usize, bytes: usize) -> Result<(), Fault>
@@ -91,11 +68,10 @@ impl Terms {
         ask(self.has_room(entries, bytes), Question::Space)
     }
 
-    fn ask_field_room(&self, name: &[u8], qualifier: Option<&[u8]>) -> Result<(), Fault>
-        requires { good_field (given_field name.now qualifier) ≡ true }
-        ensures { Decided (roomy (view_of self.now) (space 1 0 0 0 (length name.now + qualifier_bytes (given_qualifier qualifier.entry)))) SpaceQuestion result }
+    fn ask_field_room(&self, field: GivenField) -> Result<(), Fault>
+        ensures { Decided (roomy (view_of self.now) (space 1 0 0 0 (length field.entry.name.now + qualifier_bytes (given_qualifier field.entry.qualifier)))) SpaceQuestion result }
     {
-        self.ask_room(0, field_len(name, qualifier))
+        self.ask_room(0, field.len())
     }
 
     /// Whether an expression stands in the book.
@@ -114,26 +90,19 @@ impl Terms {
     }
 
     /// Adds a name and a qualifier to the text.
-    fn write_field(&mut self, name: &[u8], qualifier: Option<&[u8]>) -> StoredField
-        requires { length (view_of self.old).bytes + (length name.now + qualifier_bytes (given_qualifier qualifier)) ≤ 16384 }
-        ensures view { view_of self.new ≡ grown (view_of self.old) [] (name.now ++ qualifier_text (given_qualifier qualifier.entry)) [] }
+    fn write_field(&mut self, field: GivenField) -> StoredField
+        requires { length (view_of self.old).bytes + (length field.name.now + qualifier_bytes (given_qualifier field.qualifier)) ≤ 16384 }
+        ensures view { view_of self.new ≡ grown (view_of self.old) [] (field.entry.name.now ++ qualifier_text (given_qualifier field.entry.qualifier)) [] }
         ensures inside { stored_in (view_of self.new).bytes result ≡ true }
-        ensures field { stored_field (view_of self.new).bytes result ≡ given_field name.now qualifier.entry }
+        ensures field { stored_field (view_of self.new).bytes result ≡ given_field field.entry.name.now field.entry.qualifier }
     {
-        let name = self.write(name);
-        match qualifier {
-            None => StoredField {
-                qualifier: Qualifier::Unqualified,
-                name,
-            },
-            Some(q) => {
-                let q = self.write(q);
-                StoredField {
-                    qualifier: Qualifier::Qualified(q),
-                    name,
-                }
-            }
-        }
+        let name = self.write(field.name);
+        // With `map` nothing is known of what the closure wrote, and the three clauses stay open.
+        let qualifier = match field.qualifier {
+            None => None,
+            Some(q) => Some(self.write(q)),
+        };
+        StoredField { qualifier, name }
     }
 
     /// Adds a literal that holds no text, with the length of its rendered name.
@@ -194,14 +163,11 @@ impl Terms {
     pub fn reference(&mut self, name: &[u8], qualifier: Option<&[u8]>) -> Result<ExprId, Fault>
         ensures { Answered (view_of self.old) (make_reference (given_field name.now qualifier.entry)) result (view_of self.new) }
     {
-        ask(good_field(name, qualifier), Question::Named)?;
-        self.ask_field_room(name, qualifier)?;
-        let field = self.write_field(name, qualifier);
-        let node = ExprNode::Reference {
-            qualifier: field.qualifier,
-            name: field.name,
-        };
-        Ok(self.add(node, 1, field_width(name, qualifier)))
+        let given = GivenField { name, qualifier };
+        ask(given.is_good(), Question::Named)?;
+        self.ask_field_room(given)?;
+        let field = self.write_field(given);
+        Ok(self.add(ExprNode::Reference(field), 1, given.width() as u32))
     }
 
     /// An expression under another name.
@@ -214,15 +180,12 @@ impl Terms {
         ensures { Answered (view_of self.old) (make_alias inner.0 (given_field name.now qualifier.entry)) result (view_of self.new) }
     {
         ask(self.has(inner), Question::Present)?;
-        ask(good_alias(name, qualifier), Question::Named)?;
+        let given = GivenField { name, qualifier };
+        ask(given.is_good_alias(), Question::Named)?;
         ask(self.is_small(inner), Question::Limited)?;
-        self.ask_field_room(name, qualifier)?;
-        let field = self.write_field(name, qualifier);
-        let node = ExprNode::Alias {
-            inner,
-            qualifier: field.qualifier,
-            name: field.name,
-        };
+        self.ask_field_room(given)?;
+        let field = self.write_field(given);
+        let node = ExprNode::Alias { inner, field };
         let size = self.size(inner) + 1;
         Ok(self.add(node, size, name.len() as u32))
     }

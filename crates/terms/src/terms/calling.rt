@@ -1,5 +1,5 @@
 //! The call that makes a call of a declared function.
-ghost use Rattle.std.specs.Prelude.{◌≡◌, ◌+◌, ◌*◌, ◌<◌, ◌≤◌, true, ◌&&◌, length, is_some, nat_le};
+ghost use Rattle.std.specs.Prelude.{◌≡◌, ◌+◌, ◌≤◌, true, ◌&&◌, length, is_some, nat_le};
 ghost use Rattle.plan.specs.Calls.Call.{make_call};
 ghost use Rattle.plan.specs.Calls.{all_below, arity_is};
 ghost use Rattle.plan.specs.Fields.{any};
@@ -10,57 +10,94 @@ ghost use Rattle.plan.specs.declared.fault.Question.TheVariants.{Space as SpaceQ
 ghost use Rattle.plan.specs.Rendering.{rendered_rest};
 ghost use Rattle.plan.specs.Terms.Expr.{call as call_tree};
 ghost use Rattle.terms.specs.Build.{width_of};
-ghost use Rattle.plan.specs.Terms.{arguments as argument_list, sizes_of};
+ghost use Rattle.plan.specs.Terms.{sizes_of};
 ghost use Rattle.terms.specs.Building.{Answered, roomy};
-ghost use Rattle.terms.specs.Views.{count, numbers_of, view_of};
+ghost use Rattle.terms.specs.Views.{AllPresent, arguments_of, count, numbers_of, view_of};
 
 use super::Terms;
 use crate::node::{ExprId, ExprNode};
 use plan::fault::{Fault, Question, ask};
+
+/// The arguments of a call: at most four, and each stands in the book.
+#[derive(Clone, Copy)]
+struct Arguments<'a> {
+    terms: &'a Terms,
+    ids: &'a [ExprId],
+    ghost present: { AllPresent terms.now ids.now },
+    ghost few: { length ids.now ≤ 4 },
+}
+
+impl Arguments<'_> {
+    /// How many nodes their trees have together.
+    // A loop, since with `map` and `sum` four facts stay open: what each call needs, the bound and both clauses.
+    fn sizes(self) -> u32
+        ensures value { result ≡ sizes_of (arguments_of self.entry.terms.now self.entry.ids.now) }
+        ensures bound { result ≤ 1024 }
+    {
+        let mut total = 0;
+        for id in self.ids {
+            total += self.terms.size(*id);
+        }
+        total
+    }
+
+    /// How long their rendered names are, with a blank before each.
+    // A loop as in `sizes`.
+    fn blank_widths(self) -> u32
+        ensures value { result ≡ length (rendered_rest (view_of self.entry.terms.now).functions (arguments_of self.entry.terms.now self.entry.ids.now)) }
+        ensures bound { result ≤ 523268 }
+    {
+        let mut total = 0;
+        for id in self.ids {
+            total += self.terms.width(*id) + 1;
+        }
+        total
+    }
+
+    /// How long the rendered name of a function's call of them is.
+    fn call_width(self, number: u8) -> u32
+        ensures { result ≡ width_of (view_of self.entry.terms.now).functions (call_tree number (arguments_of self.entry.terms.now self.entry.ids.now)) }
+    {
+        let name = self.terms.name_of(number).len() as u32;
+        name + 2 + self.blank_widths().saturating_sub(1)
+    }
+
+    /// Whether a call of them has a tree of at most 256 nodes.
+    fn are_small(self) -> bool
+        ensures { result ≡ nat_le (sizes_of (arguments_of self.entry.terms.now self.entry.ids.now) + 1) 256 }
+    {
+        self.sizes() < 256
+    }
+}
 
 impl Terms {
     /// Whether all of some expressions stand in the book.
     pub fn has_all(&self, ids: &[ExprId]) -> bool
         ensures { result ≡ all_below (count self.now) (numbers_of ids.now) }
     {
-        for id in ids {
-            if !self.has(*id) {
-                return false;
-            }
-        }
-        true
+        ids.iter().all(|id| self.has(*id))
     }
 
     /// Whether one of some expressions is a total.
     pub fn any_total(&self, ids: &[ExprId]) -> bool
-        requires { all_below (count self.now) (numbers_of ids.now) ≡ true }
+        requires { AllPresent self.now ids.now }
         ensures { result ≡ any (is_total (view_of self.now).functions) (exprs_in (view_of self.now).trees (numbers_of ids.now)) }
     {
-        for id in ids {
-            if self.is_total(*id) {
-                return true;
-            }
-        }
-        false
+        ids.iter().any(|id| self.is_total(*id))
     }
 
     fn has_function(&self, number: u8) -> bool
         ensures { result ≡ is_some (function_at (view_of self.now).functions number) }
     {
-        match self.function(number) {
-            Some(_) => true,
-            None => false,
-        }
+        self.function(number).is_some()
     }
 
     /// Whether a function takes so many arguments.
     fn takes(&self, number: u8, ids: &[ExprId]) -> bool
         ensures { result ≡ arity_is (function_at (view_of self.now).functions number) (length (numbers_of ids.now)) }
     {
-        match self.function(number) {
-            Some(d) => d.arity as usize == ids.len(),
-            None => false,
-        }
+        self.function(number)
+            .is_some_and(|d| d.arity as usize == ids.len())
     }
 
     /// Whether one more node with a list has room.
@@ -68,53 +105,6 @@ impl Terms {
         ensures { Decided (roomy (view_of self.now) (space 1 0 (length (numbers_of ids.now)) 0 0)) SpaceQuestion result }
     {
         self.ask_room(ids.len(), 0)
-    }
-
-    /// How many nodes the trees of at most four expressions have together.
-    fn sizes(&self, ids: &[ExprId]) -> u32
-        requires present { all_below (count self.now) (numbers_of ids.now) ≡ true }
-        requires few { length ids.now ≤ 4 }
-        ensures value { result ≡ sizes_of (argument_list (exprs_in (view_of self.now).trees (numbers_of ids.now))) }
-        ensures bound { result ≤ 1024 }
-    {
-        let mut total = 0;
-        for id in ids {
-            total += self.size(*id);
-        }
-        total
-    }
-
-    /// How long the rendered names of at most four arguments are, with a blank before each.
-    fn blank_widths(&self, ids: &[ExprId]) -> u32
-        requires present { all_below (count self.now) (numbers_of ids.now) ≡ true }
-        requires few { length ids.now ≤ 4 }
-        ensures value { result ≡ length (rendered_rest (view_of self.now).functions (argument_list (exprs_in (view_of self.now).trees (numbers_of ids.now)))) }
-        ensures bound { result ≤ 523268 }
-    {
-        let mut total = 0;
-        for id in ids {
-            total += self.width(*id) + 1;
-        }
-        total
-    }
-
-    /// How long a call's rendered name is.
-    fn call_width(&self, number: u8, ids: &[ExprId]) -> u32
-        requires present { all_below (count self.now) (numbers_of ids.now) ≡ true }
-        requires few { length ids.now ≤ 4 }
-        ensures { result ≡ width_of (view_of self.now).functions (call_tree number (argument_list (exprs_in (view_of self.now).trees (numbers_of ids.now)))) }
-    {
-        let name = self.name_of(number).len() as u32;
-        name + 2 + self.blank_widths(ids).saturating_sub(1)
-    }
-
-    /// Whether a call of so many arguments keeps the size of a tree.
-    fn is_small_call(&self, ids: &[ExprId]) -> bool
-        requires present { all_below (count self.now) (numbers_of ids.now) ≡ true }
-        requires few { length ids.now ≤ 4 }
-        ensures { result ≡ nat_le (sizes_of (argument_list (exprs_in (view_of self.now).trees (numbers_of ids.now))) + 1) 256 }
-    {
-        self.sizes(ids) < 256
     }
 
     fn can_call(&self, number: u8, ids: &[ExprId]) -> bool
@@ -130,15 +120,17 @@ impl Terms {
         ask(self.can_call(function, arguments), Question::Present)?;
         ask(self.takes(function, arguments), Question::Bounded)?;
         ask(!self.any_total(arguments), Question::Placed)?;
-        ask(self.is_small_call(arguments), Question::Limited)?;
+        let given = Arguments {
+            terms: self,
+            ids: arguments,
+        };
+        ask(given.are_small(), Question::Limited)?;
         self.ask_list_room(arguments)?;
-        let size = self.sizes(arguments) + 1;
-        let width = self.call_width(function, arguments);
-        let first = self.list(arguments);
+        let size = given.sizes() + 1;
+        let width = given.call_width(function);
         let node = ExprNode::Call {
             function,
-            first,
-            count: arguments.len() as u32,
+            arguments: self.list(arguments),
         };
         Ok(self.add(node, size, width))
     }

@@ -5,14 +5,14 @@ ghost use Rattle.plan.specs.Functions.{function_at, is_total, rule_in};
 ghost use Rattle.plan.specs.Terms.{same_field, size_of};
 ghost use Rattle.table.specs.Contents.{part};
 ghost use Rattle.terms.specs.Build.{inside_node, numbers_in, width_of};
-ghost use Rattle.terms.specs.Spans.{declaration_in, field_at, field_in, function_in, span_in, stored_field, stored_in, word};
+ghost use Rattle.names.specs.Spans.{span_in, word};
+ghost use Rattle.terms.specs.Spans.{declaration_in, function_in};
 ghost use Rattle.terms.specs.Views.{count, tree_for, tree_of, view_of};
 
 use super::Terms;
-use crate::node::{Declaration, Entry, ExprId, ExprNode, Qualifier, Span, StoredField};
-use names::same_bytes;
+use crate::listed::Listed;
+use crate::node::{Declaration, Entry, ExprId, ExprNode, Run, Span};
 use plan::code::Rule;
-use table::table::Table;
 
 impl Terms {
     /// How many expressions there are.
@@ -82,40 +82,33 @@ impl Terms {
     pub fn rule(&self, number: u8) -> Rule
         ensures { result ≡ rule_in (function_at (view_of self.now).functions number) }
     {
-        match self.function(number) {
-            Some(d) => d.rule,
-            None => Rule::Stay,
-        }
+        self.function(number).map_or(Rule::Stay, |d| d.rule)
     }
 
     /// The entry at a place of a list.
-    pub fn entry(&self, first: u32, count: u32, i: u32) -> Entry
-        requires inside { first + count ≤ length (view_of self.now).entries }
-        requires below { i < count }
-        ensures { (d : Entry) → result ≡ slice_index_or (part (view_of self.now).entries first count) i d }
+    pub fn entry(&self, run: Run, i: u32) -> Entry
+        requires inside { run.first + run.count ≤ length (view_of self.now).entries }
+        requires below { i < run.count }
+        ensures { (d : Entry) → result ≡ slice_index_or (part (view_of self.now).entries run.first run.count) i d }
     {
-        self.entries.get((first + i) as usize)
+        self.entries(run)[i as usize]
     }
 
     /// The entries of a list.
-    pub fn entries(&self, first: u32, count: u32) -> &[Entry]
-        requires { first + count ≤ length (view_of self.now).entries }
-        ensures { result.now ≡ part (view_of self.now).entries first count }
+    pub fn entries(&self, run: Run) -> &[Entry]
+        requires { run.first + run.count ≤ length (view_of self.now).entries }
+        ensures { result.now ≡ part (view_of self.now).entries run.first run.count }
     {
-        self.entries.part(first as usize, count as usize)
+        self.entries.part(run.first as usize, run.count as usize)
     }
 
     /// The expression at a place of a list.
-    pub fn listed(&self, first: u32, count: u32, i: u32) -> ExprId
-        requires inside { first + count ≤ length (view_of self.now).entries }
-        requires below { i < count }
-        ensures { result.0 ≡ slice_index (numbers_in (view_of self.now).entries first count) i }
+    pub fn listed(&self, run: Run, i: u32) -> ExprId
+        requires inside { run.first + run.count ≤ length (view_of self.now).entries }
+        requires below { i < run.count }
+        ensures { result.0 ≡ slice_index (numbers_in (view_of self.now).entries run.first run.count) i }
     {
-        match self.entries.get((first + i) as usize) {
-            Entry::Expression(e) => e,
-            Entry::Key(e, _) => e,
-            Entry::Input(p) => ExprId(p.0),
-        }
+        ExprId::read(self.entry(run, i))
     }
 
     /// Whether an expression is a total, under aliases at most.
@@ -124,13 +117,9 @@ impl Terms {
         ensures { result ≡ is_total (view_of self.now).functions (tree_of self.now e.0) }
     {
         match self.node(e) {
-            ExprNode::Constant(_) => false,
-            ExprNode::Reference { .. } => false,
+            ExprNode::Constant(_) | ExprNode::Reference(_) => false,
             ExprNode::Alias { inner, .. } => self.is_total(inner),
-            ExprNode::Call { function, .. } => match self.rule(function) {
-                Rule::Total => true,
-                _ => false,
-            },
+            ExprNode::Call { function, .. } => self.rule(function) == Rule::Total,
         }
     }
 

@@ -2,27 +2,21 @@
 ghost use Rattle.std.specs.Prelude.{◌≡◌, ◌+◌, ◌<◌, ◌≤◌, true, ◌++◌, map, length, count_by};
 ghost use Rattle.plan.specs.Fields.{any, every, named, resolved, resolves};
 ghost use Rattle.plan.specs.Terms.{same_field, same_qualifier};
-ghost use Rattle.terms.specs.Spans.{field_at, field_in, qualifier_at, qualifier_in, span_in, stored_field, stored_in, word};
+ghost use Rattle.names.specs.Spans.{span_in, word};
+ghost use Rattle.terms.specs.Spans.{qualifier_at, qualifier_in, stored_field, stored_in};
 ghost use Rattle.terms.specs.Views.{count, tree_of, view_of};
 
 use super::Terms;
-use crate::node::{ExprId, ExprNode, Qualifier, Span, StoredField};
-use names::same_bytes;
+use crate::listed::Listed;
+use crate::node::{ExprId, ExprNode, Span, StoredField};
 
 impl Terms {
-    fn same_qualifier(&self, a: Qualifier, b: Qualifier) -> bool
+    fn same_qualifier(&self, a: Option<Span>, b: Option<Span>) -> bool
         requires left { qualifier_in (view_of self.now).bytes a ≡ true }
         requires right { qualifier_in (view_of self.now).bytes b ≡ true }
         ensures { result ≡ same_qualifier (qualifier_at (view_of self.now).bytes a) (qualifier_at (view_of self.now).bytes b) }
     {
-        match (a, b) {
-            (Qualifier::Unqualified, Qualifier::Unqualified) => true,
-            (Qualifier::Qualified(x), Qualifier::Qualified(y)) => same_bytes(
-                self.word(x),
-                self.word(y),
-            ),
-            _ => false,
-        }
+        a.map(|s| self.word(s)) == b.map(|s| self.word(s))
     }
 
     fn same_field(&self, a: StoredField, b: StoredField) -> bool
@@ -30,11 +24,11 @@ impl Terms {
         requires right { stored_in (view_of self.now).bytes b ≡ true }
         ensures { result ≡ same_field (stored_field (view_of self.now).bytes a) (stored_field (view_of self.now).bytes b) }
     {
-        self.same_qualifier(a.qualifier, b.qualifier)
-            && same_bytes(self.word(a.name), self.word(b.name))
+        self.same_qualifier(a.qualifier, b.qualifier) && self.word(a.name) == self.word(b.name)
     }
 
     /// How many fields have a name.
+    // A loop with an index is the form in which the project counts the fields that have a name.
     fn count_named(&self, fields: &[StoredField], name: Span) -> usize
         requires stored { every (stored_in (view_of self.now).bytes) fields.now ≡ true }
         requires name { span_in (view_of self.now).bytes name ≡ true }
@@ -43,7 +37,7 @@ impl Terms {
     {
         let mut count = 0;
         for i in 0..fields.len() {
-            if same_bytes(self.word(name), self.word(fields[i].name)) {
+            if self.word(name) == self.word(fields[i].name) {
                 count += 1;
             }
         }
@@ -56,12 +50,7 @@ impl Terms {
         requires field { stored_in (view_of self.now).bytes field ≡ true }
         ensures { result ≡ any (same_field (stored_field (view_of self.now).bytes field)) (map (stored_field (view_of self.now).bytes) fields.now) }
     {
-        for i in 0..fields.len() {
-            if self.same_field(field, fields[i]) {
-                return true;
-            }
-        }
-        false
+        fields.iter().any(|other| self.same_field(field, *other))
     }
 }
 
@@ -74,20 +63,17 @@ impl Terms {
         ensures { result ≡ resolves (map (stored_field (view_of self.now).bytes) left.now ++ map (stored_field (view_of self.now).bytes) right.now) (stored_field (view_of self.now).bytes field) }
     {
         match field.qualifier {
-            Qualifier::Unqualified => {
+            None => {
                 let here = self.count_named(left, field.name);
                 let there = self.count_named(right, field.name);
                 here.saturating_add(there) == 1
             }
-            Qualifier::Qualified(_) => {
-                let here = self.has_field(left, field);
-                let there = self.has_field(right, field);
-                here || there
-            }
+            Some(_) => self.has_field(left, field) || self.has_field(right, field),
         }
     }
 
     /// Whether every reference of an expression resolves among the fields of one or two inputs.
+    // A struct of `left` and `right` would serve one function more, `resolves`, and this one would still take both.
     pub fn resolved(&self, left: &[StoredField], right: &[StoredField], e: ExprId) -> bool
         requires left { every (stored_in (view_of self.now).bytes) left.now ≡ true }
         requires right { every (stored_in (view_of self.now).bytes) right.now ≡ true }
@@ -96,15 +82,12 @@ impl Terms {
     {
         match self.node(e) {
             ExprNode::Constant(_) => true,
-            ExprNode::Reference { qualifier, name } => self.resolves(
-                left,
-                right,
-                StoredField { qualifier, name },
-            ),
+            ExprNode::Reference(field) => self.resolves(left, right, field),
             ExprNode::Alias { inner, .. } => self.resolved(left, right, inner),
-            ExprNode::Call { first, count, .. } => {
-                for i in 0..count {
-                    if !self.resolved(left, right, self.listed(first, count, i)) {
+            ExprNode::Call { arguments, .. } => {
+                let listed = self.entries(arguments);
+                for entry in listed {
+                    if !self.resolved(left, right, ExprId::read(*entry)) {
                         return false;
                     }
                 }

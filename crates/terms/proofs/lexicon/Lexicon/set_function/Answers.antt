@@ -1,4 +1,4 @@
-use Rattle.std.proofs.Common.{Some, refl, ap, ◌∙◌}
+use Rattle.std.proofs.Common.{Some, ap, ◌∙◌}
 use Rattle.std.proofs.lemmas.List.{length-set, map-set}
 use Rattle.plan.specs.Fields.{every}
 use Rattle.terms.specs.Acceptance.{good_function}
@@ -12,9 +12,9 @@ invariant_of-self c =
     let x = c.args.self.now in
     let d = Some c.args.function in
     let n = c.args.number in
-    record { long = length-set x.functions n d ∙ x.long; inside = every_set (declaration_in (text_of x)) x.functions n d x.inside c.requires.inside; good = ap (every good_function) (map-set (function_in (text_of x)) x.functions n d) ∙ every_set good_function (functions_of x) n (function_in (text_of x) d) x.good c.requires.good }
+    record { long = length-set x.functions n d ∙ x.long; fits = x.fits; inside = every_set (declaration_in (text_of x)) x.functions n d x.inside c.requires.inside; good = ap (every good_function) (map-set (function_in (text_of x)) x.functions n d) ∙ every_set good_function (functions_of x) n (function_in (text_of x) d) x.good c.requires.good }
 
-pub returns : goal.returns
-returns c =
+pub returns-clause-functions : goal.returns-clause-functions
+returns-clause-functions c =
     let x = c.args.self.now in
-    record { functions = map-set (function_in (text_of x)) x.functions c.args.number (Some c.args.function); text = refl }
+    map-set (function_in (text_of x)) x.functions c.args.number (Some c.args.function)

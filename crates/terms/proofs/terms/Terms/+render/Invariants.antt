@@ -1,5 +1,4 @@
 use Rattle.std.proofs.Common.{◌≡◌, ◌++◌, map, take}
-use Rattle.table.specs.Contents.{contents}
 use Rattle.plan.specs.Model.{expr_in}
 use Rattle.plan.specs.Rendering.{rendered_all}
 use Rattle.plan.specs.Terms.{arguments}
@@ -12,5 +11,5 @@ decreases-render l = l.e.0
 
 abbrev pub invariant-loop-i : goal.invariant-loop-i
 invariant-loop-i l =
-    contents l.out
-    ≡ contents l.initial.out ++ rendered_all (view_of l.self).functions (arguments (take l.i (map (expr_in (view_of l.self).trees) (numbers_in (view_of l.self).entries l.first l.count))))
+    l.out
+    ≡ l.initial.out ++ rendered_all (view_of l.self).functions (arguments (take l.i (map (expr_in (view_of l.self).trees) (numbers_in (view_of l.self).entries l.arguments.first l.arguments.count))))

@@ -1,34 +1,23 @@
-use Rattle.std.proofs.Common.{◌+◌, ◌||◌, drop, sym, ap, ◌∙◌}
-use Rattle.table.proofs.Loops.{twice-step, twice-end}
-use Rattle.plan.specs.Fields.{any}
+use Rattle.std.proofs.Common.{◌<◌, sym, ◌∙◌, subst, rules}
+use Rattle.std.proofs.lemmas.Iterator.Adapters.{serves_from_places}
+use Rattle.std.proofs.lemmas.Iterator.{YieldsList-from_slice}
+use Rattle.std.proofs.lemmas.Iterator.Search.{any_from_yields_List}
 use Rattle.plan.specs.Functions.{is_total}
-use Rattle.plan.specs.Model.{expr_in, exprs_in}
-use Rattle.terms.specs.Views.{count, view_of, numbers_of}
-use Rattle.terms.specs.declared.node.ExprId.{ExprId}
-use Rattle.terms.proofs.Walks.{one_below}
+use Rattle.plan.specs.Model.{expr_in}
+use Rattle.terms.specs.Views.{count, numbers_of, view_of}
+use Rattle.terms.proofs.Walks.{any-mapped, any-moved, one_below}
 use Rattle.terms.proofs.terms.Terms.any_total.Goals as goal
 
-abbrev zero : ExprId
-zero = record { 0 = 0 }
-
-pub is_total-requires : goal.is_total-requires
-is_total-requires c = one_below (count c.args.self.now) c.args.ids.now c.loop-id.id-index zero c.loop-id-test.true c.requires
-
-pub returns-then-is_total : goal.returns-then-is_total
-returns-then-is_total c =
-    let v = view_of c.args.self.now in
+pub any-requires-clause-callable : goal.any-requires-clause-callable
+any-requires-clause-callable c =
+    let n = count c.args.self.now in
     let ids = c.args.ids.now in
-    let p = any (is_total v.functions) in
-    sym (c.loop-id.invariant ∙ twice-step p (expr_in v.trees) (λ e. e.0) ids c.loop-id.id-index zero c.loop-id-test.true ∙ ap (λ b. b || p (drop (c.loop-id.id-index + 1) (exprs_in v.trees (numbers_of ids)))) (sym c.if-is_total.ensures))
-
-pub loop-id-preserved : goal.loop-id-preserved
-loop-id-preserved c =
-    let v = view_of c.args.self.now in
-    let ids = c.args.ids.now in
-    let p = any (is_total v.functions) in
-    c.loop-id.invariant ∙ twice-step p (expr_in v.trees) (λ e. e.0) ids c.loop-id.id-index zero c.loop-id-test.true ∙ ap (λ b. b || p (drop (c.loop-id.id-index + 1) (exprs_in v.trees (numbers_of ids)))) (sym c.if-is_total.ensures)
+    serves_from_places (YieldsList-from_slice ids cc) (λ x q k. search rules) (λ x k lt e. let h : x.now.0 < n = subst (λ y. y.0 < n) (sym e) (one_below n ids k x.now lt c.requires) in search rules)
 
 pub returns : goal.returns
 returns c =
     let v = view_of c.args.self.now in
-    sym (c.loop-id.invariant ∙ twice-end (any (is_total v.functions)) (expr_in v.trees) (λ e. e.0) c.args.ids.now c.loop-id.id-index c.loop-id-test.false)
+    let p = is_total v.functions in
+    let ids = c.args.ids.now in
+    any_from_yields_List (λ e. p (expr_in v.trees e.0)) _ _ _ c.any.ensures.ran (YieldsList-from_slice ids cc) (λ x b q k. search rules)
+    ∙ any-mapped (λ n. p (expr_in v.trees n)) (λ e. e.0) ids ∙ any-moved p (expr_in v.trees) (numbers_of ids)

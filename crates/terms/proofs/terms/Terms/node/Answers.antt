@@ -1,5 +1,4 @@
-use Rattle.std.proofs.Common.{◌≡◌, true, sym, ap, ◌∙◌, subst, arith, lit<}
-use Rattle.table.specs.Contents.{contents}
+use Rattle.std.proofs.Common.{◌≡◌, true, sym, ap, ◌∙◌, subst, arith}
 use Rattle.terms.specs.Build.{inside}
 use Rattle.terms.specs.Lexicon.{text_of}
 use Rattle.terms.specs.Views.{tree_for}
@@ -7,13 +6,10 @@ use Rattle.terms.proofs.Facts.{counted}
 use Rattle.terms.proofs.Trees.{tree-at}
 use Rattle.terms.proofs.terms.Terms.node.Goals as goal
 
-pub get-requires : goal.get-requires
-get-requires c = (lit< tt, omega (arith, counted c.args.self.now, c.requires))
-
 pub returns : goal.returns
 returns c =
     let t = c.args.self.now in
     let x = c.get.result in
     let e = sym (c.get.ensures x) in
-    let a = tree-at (text_of t.lexicon) (contents t.entries) (contents t.exprs) c.args.e.0 x t.sound (omega (arith, counted t, c.requires)) in
-    record { tree = a.0 ∙ ap (λ r. tree_for t r.node) e; inside = subst (λ r. inside (text_of t.lexicon) (contents t.entries) c.args.e.0 r ≡ true) e a.1 }
+    let a = tree-at (text_of t.lexicon) t.entries t.exprs c.args.e.0 x t.sound (omega (arith, counted t, c.requires)) in
+    record { tree = a.0 ∙ ap (λ r. tree_for t r.node) e; inside = subst (λ r. inside (text_of t.lexicon) t.entries c.args.e.0 r ≡ true) e a.1 }

@@ -1,0 +1,61 @@
+//! What lists hold, as entries of the list table.
+ghost use Rattle.std.specs.Prelude.{◌≡◌, refl};
+ghost use Rattle.terms.specs.Entries.{expr_of, input_of};
+ghost use Rattle.terms.specs.declared.node.Entry.TheVariants.{Expression, Input};
+ghost use Rattle.terms.specs.declared.node.Entry.{Entry};
+
+use crate::node::{Entry, ExprId, PlanId};
+
+/// What may stand in a list.
+pub trait Listed: Copy {
+    /// The entry that it is stored as.
+    ghost entry: { Self → Entry };
+
+    /// What an entry is read as.
+    ghost read: { Entry → Self };
+
+    fn entry(self) -> Entry
+        ensures { result ≡ entry self };
+
+    fn read(held: Entry) -> Self
+        ensures { result ≡ read held };
+
+    /// What was stored is read as it was.
+    ghost kept: { (x : Self) → read (entry x) ≡ x };
+}
+
+impl Listed for ExprId {
+    ghost entry = { Expression };
+
+    ghost read = { expr_of };
+
+    ghost kept = { λ x. refl };
+
+    fn entry(self) -> Entry {
+        Entry::Expression(self)
+    }
+
+    fn read(held: Entry) -> ExprId {
+        match held {
+            Entry::Expression(e) => e,
+            Entry::Key(e, _) => e,
+            Entry::Input(p) => ExprId(p.0),
+        }
+    }
+}
+
+impl Listed for PlanId {
+    ghost entry = { Input };
+
+    ghost read = { input_of };
+
+    ghost kept = { λ x. refl };
+
+    fn entry(self) -> Entry {
+        Entry::Input(self)
+    }
+
+    fn read(held: Entry) -> PlanId {
+        PlanId(ExprId::read(held).0)
+    }
+}
