@@ -1,76 +1,89 @@
 //! How a draft grows.
-ghost use Rattle.std.specs.Prelude.{◌≡◌, ◌+◌, ◌≤◌, true, ◌++◌, map, length};
-ghost use Rattle.draft.specs.Drafts.{FieldsFor, as_bare, as_column, as_owned, as_stored};
+ghost use Rattle.std.specs.Prelude.{◌≡◌, ◌+◌, ◌≤◌, true, ◌++◌, map, length, All};
+ghost use Rattle.draft.specs.Drafts.{FieldsFor, Pushed, as_bare, as_column, as_owned, as_stored};
 ghost use Rattle.plan.specs.Calls.{all_below};
 ghost use Rattle.plan.specs.Model.{exprs_in};
-ghost use Rattle.table.specs.Contents.{contents};
 ghost use Rattle.terms.specs.Views.{count, numbers_of, view_of};
 
-use crate::reading::{field_of, kept_qualifier};
-use crate::word::{DraftField, DraftQualifier, Word};
+use crate::reading::{as_stored, field_of};
+use crate::word::{DraftField, Relation, Word};
 use table::table::Table;
 use terms::node::{ExprId, Span, StoredField};
 use terms::terms::Terms;
 
+/// Adds what `drafted` makes of each item.
+fn push_each<T: Copy, F: Fn(T) -> DraftField>(
+    out: &mut Table<DraftField, 128>,
+    items: &[T],
+    drafted: F,
+)
+    requires callable { All (F.pre drafted) items.now }
+    requires room { length out.old + length items.now ≤ 128 }
+    ensures { Pushed (F.post drafted) items.now out.old out.new }
+{
+    for item in items {
+        out.push(drafted(*item));
+    }
+}
+
 /// Adds stored fields as they are.
 pub fn push_stored(out: &mut Table<DraftField, 128>, fields: &[StoredField])
-    requires { length (contents out.old) + length fields.now ≤ 128 }
-    ensures { contents out.new ≡ contents out.old ++ map as_stored fields.now }
+    requires { length out.old + length fields.now ≤ 128 }
+    ensures { out.new ≡ out.old ++ map as_stored fields.now }
 {
-    for field in fields {
-        out.push(DraftField {
-            qualifier: kept_qualifier(field.qualifier),
-            name: Word::Stored(field.name),
-        });
-    }
+    push_each(out, fields, as_stored);
 }
 
 /// Adds stored fields under the lent owner.
 pub fn push_owned(out: &mut Table<DraftField, 128>, fields: &[StoredField])
-    requires { length (contents out.old) + length fields.now ≤ 128 }
-    ensures { contents out.new ≡ contents out.old ++ map as_owned fields.now }
+    requires { length out.old + length fields.now ≤ 128 }
+    ensures { out.new ≡ out.old ++ map as_owned fields.now }
 {
-    for column in fields {
-        out.push(DraftField {
-            qualifier: DraftQualifier::OfOwner,
+    push_each(
+        out,
+        fields,
+        |column| DraftField {
+            qualifier: Some(Relation::OfOwner),
             name: Word::Stored(column.name),
-        });
-    }
+        },
+    );
 }
 
 /// Adds stored fields without their qualifiers.
 pub fn push_bare(out: &mut Table<DraftField, 128>, fields: &[StoredField])
-    requires { length (contents out.old) + length fields.now ≤ 128 }
-    ensures { contents out.new ≡ contents out.old ++ map as_bare fields.now }
+    requires { length out.old + length fields.now ≤ 128 }
+    ensures { out.new ≡ out.old ++ map as_bare fields.now }
 {
-    for field in fields {
-        out.push(DraftField {
-            qualifier: DraftQualifier::Bare,
+    push_each(
+        out,
+        fields,
+        |field| DraftField {
+            qualifier: None,
             name: Word::Stored(field.name),
-        });
-    }
+        },
+    );
 }
 
 /// Adds parts of the lent names, under the lent owner.
 pub fn push_columns(out: &mut Table<DraftField, 128>, pieces: &[Span])
-    requires { length (contents out.old) + length pieces.now ≤ 128 }
-    ensures { contents out.new ≡ contents out.old ++ map as_column pieces.now }
+    requires { length out.old + length pieces.now ≤ 128 }
+    ensures { out.new ≡ out.old ++ map as_column pieces.now }
 {
-    for piece in pieces {
-        out.push(DraftField {
-            qualifier: DraftQualifier::OfOwner,
-            name: Word::Given(*piece),
-        });
-    }
+    push_each(
+        out,
+        pieces,
+        |piece| DraftField {
+            qualifier: Some(Relation::OfOwner),
+            name: Word::Given(piece),
+        },
+    );
 }
 
 /// Adds the fields that expressions have.
 pub fn push_expressions(terms: &Terms, out: &mut Table<DraftField, 128>, ids: &[ExprId])
     requires present { all_below (count terms.now) (numbers_of ids.now) ≡ true }
-    requires room { length (contents out.old) + length ids.now ≤ 128 }
-    ensures { FieldsFor (view_of terms.now) (exprs_in (view_of terms.now).trees (numbers_of ids.now)) (contents out.old) (contents out.new) }
+    requires room { length out.old + length ids.now ≤ 128 }
+    ensures { FieldsFor (view_of terms.now) (exprs_in (view_of terms.now).trees (numbers_of ids.now)) out.old out.new }
 {
-    for id in ids {
-        out.push(field_of(terms, *id));
-    }
+    push_each(out, ids, |id| field_of(terms, id));
 }

@@ -1,23 +1,23 @@
 //! What is asked of the fields that expressions give a node.
 ghost use Rattle.std.specs.Prelude.{◌≡◌, ◌<◌, ◌≤◌, true, length, sum_by};
-ghost use Rattle.draft.specs.Drafts.{FieldFor, kept_qualifier};
+ghost use Rattle.draft.specs.Drafts.{FieldFor, as_stored};
 ghost use Rattle.plan.specs.Calls.{all_below, rendered_bytes};
 ghost use Rattle.plan.specs.Fields.{every};
 ghost use Rattle.plan.specs.Model.{exprs_in};
 ghost use Rattle.plan.specs.Questions.{short_name};
 ghost use Rattle.terms.specs.Views.{count, numbers_of, tree_of, view_of};
 
-use crate::word::{DraftField, DraftQualifier, Word};
-use terms::node::{ExprId, ExprNode, Qualifier};
+use crate::word::{DraftField, Relation, Word};
+use terms::node::{ExprId, ExprNode, StoredField};
 use terms::terms::Terms;
 
-/// A stored qualifier as it is.
-pub(crate) fn kept_qualifier(qualifier: Qualifier) -> DraftQualifier
-    ensures { result ≡ kept_qualifier qualifier }
+/// A stored field as it is.
+pub(crate) fn as_stored(field: StoredField) -> DraftField
+    ensures { result ≡ as_stored field }
 {
-    match qualifier {
-        Qualifier::Unqualified => DraftQualifier::Bare,
-        Qualifier::Qualified(s) => DraftQualifier::Of(s),
+    DraftField {
+        qualifier: field.qualifier.map(Relation::Of),
+        name: Word::Stored(field.name),
     }
 }
 
@@ -27,74 +27,48 @@ pub fn field_of(terms: &Terms, e: ExprId) -> DraftField
     ensures { FieldFor (view_of terms.now) (tree_of terms.now e.0) result }
 {
     let rendered = DraftField {
-        qualifier: DraftQualifier::Bare,
+        qualifier: None,
         name: Word::Rendered(e),
     };
     match terms.node(e) {
         ExprNode::Constant(_) => rendered,
-        ExprNode::Reference { qualifier, name } => DraftField {
-            qualifier: kept_qualifier(qualifier),
-            name: Word::Stored(name),
-        },
-        ExprNode::Alias {
-            qualifier,
-            name,
-            ..
-        } => DraftField {
-            qualifier: kept_qualifier(qualifier),
-            name: Word::Stored(name),
-        },
+        ExprNode::Reference(field) => as_stored(field),
+        ExprNode::Alias { field, .. } => as_stored(field),
         ExprNode::Call { .. } => rendered,
     }
 }
 
-/// Whether a field that takes its name by rendering has at most 255 bytes.
-fn has_short_name(terms: &Terms, e: ExprId) -> bool
+/// How many bytes an expression's field takes for a rendered name: none where it has a name of its own.
+fn rendered_len(terms: &Terms, e: ExprId) -> u32
     requires { e.0 < count terms.now }
-    ensures { result ≡ short_name (view_of terms.now).functions (tree_of terms.now e.0) }
+    ensures value { result ≡ rendered_bytes (view_of terms.now).functions (tree_of terms.now e.0) }
+    ensures bound { result ≤ 130816 }
 {
-    let width = terms.width(e);
     match terms.node(e) {
-        ExprNode::Constant(_) => width <= 255,
-        ExprNode::Reference { .. } => true,
-        ExprNode::Alias { .. } => true,
-        ExprNode::Call { .. } => width <= 255,
+        ExprNode::Reference(_) | ExprNode::Alias { .. } => 0,
+        ExprNode::Constant(_) | ExprNode::Call { .. } => terms.width(e),
     }
 }
 
-/// The same of all of some expressions.
+/// Whether each field of some expressions that takes its name by rendering has at most 255 bytes.
 pub fn has_short_names(terms: &Terms, ids: &[ExprId]) -> bool
     requires { all_below (count terms.now) (numbers_of ids.now) ≡ true }
     ensures { result ≡ every (short_name (view_of terms.now).functions) (exprs_in (view_of terms.now).trees (numbers_of ids.now)) }
 {
     for id in ids {
-        if !has_short_name(terms, *id) {
+        if rendered_len(terms, *id) > 255 {
             return false;
         }
     }
     true
 }
 
-/// How many bytes an expression's field takes for a rendered name.
-fn rendered_len(terms: &Terms, e: ExprId) -> u32
-    requires { e.0 < count terms.now }
-    ensures value { result ≡ rendered_bytes (view_of terms.now).functions (tree_of terms.now e.0) }
-    ensures bound { result ≤ 130816 }
-{
-    let width = terms.width(e);
-    match terms.node(e) {
-        ExprNode::Constant(_) => width,
-        ExprNode::Reference { .. } => 0,
-        ExprNode::Alias { .. } => 0,
-        ExprNode::Call { .. } => width,
-    }
-}
-
-/// The same of all of some expressions together.
+/// How many bytes the rendered names of some expressions take together.
 pub fn rendered_bytes(terms: &Terms, ids: &[ExprId]) -> usize
     requires present { all_below (count terms.now) (numbers_of ids.now) ≡ true }
     requires few { length ids.now ≤ 64 }
-    ensures { result ≡ sum_by (rendered_bytes (view_of terms.now).functions) (exprs_in (view_of terms.now).trees (numbers_of ids.now)) }
+    ensures value { result ≡ sum_by (rendered_bytes (view_of terms.now).functions) (exprs_in (view_of terms.now).trees (numbers_of ids.now)) }
+    ensures bound { result ≤ 8372224 }
 {
     let mut total: usize = 0;
     for id in ids {

@@ -14,10 +14,9 @@ pub enum Word {
     Rendered(ExprId),
 }
 
-/// Which relation a column is of: that is not said, a part of the book's text, or the lent owner.
+/// Which relation a column is of, by where its name is: a part of the book's text, or the lent owner.
 #[derive(Clone, Copy)]
-pub enum DraftQualifier {
-    Bare,
+pub enum Relation {
     Of(Span),
     OfOwner,
 }
@@ -25,6 +24,6 @@ pub enum DraftQualifier {
 /// A column that is not stored yet.
 #[derive(Clone, Copy)]
 pub struct DraftField {
-    pub qualifier: DraftQualifier,
+    pub qualifier: Option<Relation>,
     pub name: Word,
 }

@@ -1,15 +1,7 @@
-use Rattle.std.proofs.Common.{arith, lit<}
-use Rattle.table.specs.Contents.{contents}
-use Rattle.table.proofs.Copies.{copied_more, copied_all, copied-length}
+use Rattle.std.proofs.Common.{rules}
 use Rattle.draft.specs.Drafts.{as_column}
+use Rattle.draft.proofs.Growing.{pushed-map}
 use Rattle.draft.proofs.building.push_columns.Goals as goal
 
-pub push-requires : goal.push-requires
-push-requires c =
-    (lit< tt, omega (arith, c.requires, copied-length as_column (contents c.args.out.now) c.args.pieces.now c.loop-piece.piece-index _ (omega arith) c.loop-piece.invariant))
-
-pub loop-piece-preserved : goal.loop-piece-preserved
-loop-piece-preserved c = copied_more as_column (contents c.args.out.now) c.args.pieces.now c.loop-piece.piece-index _ _ _ (omega arith) c.loop-piece.invariant c.push.ensures
-
 pub returns : goal.returns
-returns c = copied_all as_column (contents c.args.out.now) c.args.pieces.now c.loop-piece.piece-index _ (omega arith) c.loop-piece.invariant
+returns c = pushed-map _ as_column (λ x d made. search rules) c.args.pieces.now c.args.out.now _ c.push_each.ensures

@@ -1,15 +1,7 @@
-use Rattle.std.proofs.Common.{arith, lit<}
-use Rattle.table.specs.Contents.{contents}
-use Rattle.table.proofs.Copies.{copied_more, copied_all, copied-length}
+use Rattle.std.proofs.Common.{rules}
 use Rattle.draft.specs.Drafts.{as_owned}
+use Rattle.draft.proofs.Growing.{pushed-map}
 use Rattle.draft.proofs.building.push_owned.Goals as goal
 
-pub push-requires : goal.push-requires
-push-requires c =
-    (lit< tt, omega (arith, c.requires, copied-length as_owned (contents c.args.out.now) c.args.fields.now c.loop-column.column-index _ (omega arith) c.loop-column.invariant))
-
-pub loop-column-preserved : goal.loop-column-preserved
-loop-column-preserved c = copied_more as_owned (contents c.args.out.now) c.args.fields.now c.loop-column.column-index _ _ _ (omega arith) c.loop-column.invariant c.push.ensures
-
 pub returns : goal.returns
-returns c = copied_all as_owned (contents c.args.out.now) c.args.fields.now c.loop-column.column-index _ (omega arith) c.loop-column.invariant
+returns c = pushed-map _ as_owned (λ x d made. search rules) c.args.fields.now c.args.out.now _ c.push_each.ensures
