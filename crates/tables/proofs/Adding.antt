@@ -2,7 +2,7 @@
 use Rattle.std.proofs.Common.{◌≡◌, ℕ, ◌+◌, ◌≤◌, true, ◌&&◌, leb, List, [], ◌∷◌, ◌++◌, map, length, sum_by, sym, refl, ap, ◌∙◌, subst, ap₂, arith, length-append}
 use Rattle.std.proofs.lemmas.List.{append-nil, append_assoc, length-map, length_push, map_push}
 use Rattle.std.proofs.lemmas.Bool.{and_parts, and_from, leb-true, le-leb}
-use Rattle.table.specs.Contents.{contents, part}
+use Rattle.table.specs.Contents.{part}
 use Rattle.table.proofs.Parts.{part-added}
 use Rattle.plan.specs.Plans.{fields_of, plan_size_of}
 use Rattle.plan.specs.Fields.{every}
@@ -10,7 +10,8 @@ use Rattle.plan.specs.Questions.{limited, expressions_of, shown_expressions, sma
 use Rattle.plan.specs.Model.{Space, fits}
 use Rattle.plan.specs.Names.{good_name}
 use Rattle.plan.specs.Calls.{rendered_bytes, parts}
-use Rattle.terms.specs.Spans.{word, stored_field, stored_in}
+use Rattle.terms.specs.Spans.{stored_field, stored_in}
+use Rattle.names.specs.Spans.{word}
 use Rattle.terms.specs.Views.{View, grown}
 use Rattle.terms.specs.declared.node.Entry.{Entry}
 use Rattle.terms.specs.declared.node.Entry.TheVariants.{Expression, Input}
@@ -23,7 +24,8 @@ use Rattle.draft.proofs.Keeping.{drafts-grown}
 use Rattle.tables.specs.Stored.{fields_in, build_plan_node, build_plan, plan_nodes, node_trees, node_inputs, inputs_from, inside_node, accepted_node, inside_plan}
 use Rattle.tables.specs.Holding.{view_in, nodes_of, trees_in, plan_count, model_from, model_of}
 use Rattle.tables.specs.Making.{tree_for, tree_over, entries_for, bytes_for, outlay_for, bounded, well_named, inputs_for, NodeStored}
-use Rattle.tables.specs.Placing.{key_entry, own_text, own_entries, lent_owner, lent_given, PlacedAs}
+use Rattle.tables.specs.Keys.{key_entry}
+use Rattle.tables.specs.Placing.{own_text, own_entries, lent_owner, lent_given, PlacedAs}
 use Rattle.tables.specs.declared.node.NewNode.{NewNode}
 use Rattle.tables.specs.declared.node.NewNode.TheVariants.{Table, Projection, Filter, Sort, Limit, Aggregate, Join, SubqueryAlias, Union}
 use Rattle.tables.specs.declared.node.PlanRecord.{PlanRecord}
@@ -115,9 +117,9 @@ module _ (t : Tables) (n : NewNode) (k : ℕ) (ds : List DraftField) (dr : Shown
       omega (arith, (fits-parts (model_of t).used (outlay_for t n) h).3, kept.2, ap (λ y. length y.bytes) px.view, length-append (view_in t).bytes (own_text n), own-bytes n)
 
   module _ (ke : k ≡ plan_count t) (u : View) (F : List StoredField)
-      (st : StoredAll w (word w.bytes x.owner) (word w.bytes x.given) ds (contents t.fields) u F)
-      (lim : limited (view_in t).functions (tree_for t n) ≡ true) (named : well_named n ≡ true) (number : PlanId) (ne : number.0 ≡ k) (first count size : ℕ) (fe : first ≡ length (contents t.fields)) (ce : count ≡ length ds) (se : size ≡ plan_size_of (tree_for t n))
-      (R : List PlanRecord) (Re : R ≡ contents t.plans ++ record { node = x.node; fields = record { first = first; count = count }; size = size; origin = number } ∷ []) where
+      (st : StoredAll w (word w.bytes x.owner) (word w.bytes x.given) ds t.fields u F)
+      (lim : limited (view_in t).functions (tree_for t n) ≡ true) (named : well_named n ≡ true) (number : PlanId) (ne : number.0 ≡ k) (first count size : ℕ) (fe : first ≡ length t.fields) (ce : count ≡ length ds) (se : size ≡ plan_size_of (tree_for t n))
+      (R : List PlanRecord) (Re : R ≡ t.plans ++ record { node = x.node; fields = record { first = first; count = count }; size = size; origin = number } ∷ []) where
     abbrev new : PlanRecord
     new = record { node = x.node; fields = record { first = first; count = count }; size = size; origin = number }
 
@@ -127,51 +129,51 @@ module _ (t : Tables) (n : NewNode) (k : ℕ) (ds : List DraftField) (dr : Shown
     seen : u ≡ grown (view_in t) [] bs (own_entries n)
     seen = grown-then (view_in t) w u (own_text n) st.bytes (own_entries n) px.view st.view
 
-    before : PlanFacts u F (contents t.plans)
+    before : PlanFacts u F t.plans
     before =
-        let f = facts-grow (view_in t) [] bs (own_entries n) (contents t.fields) st.new (contents t.plans) (ap (λ y. every (stored_in y.bytes) st.new) (sym seen) ∙ st.inside) (facts-in t) in
-        subst (λ fs. PlanFacts u fs (contents t.plans)) (sym st.grew) (subst (λ y. PlanFacts y (contents t.fields ++ st.new) (contents t.plans)) (sym seen) f)
+        let f = facts-grow (view_in t) [] bs (own_entries n) t.fields st.new t.plans (ap (λ y. every (stored_in y.bytes) st.new) (sym seen) ∙ st.inside) (facts-in t) in
+        subst (λ fs. PlanFacts u fs t.plans) (sym st.grew) (subst (λ y. PlanFacts y (t.fields ++ st.new) t.plans) (sym seen) f)
 
-    nodes : plan_nodes u F (contents t.plans) ≡ nodes_of t
+    nodes : plan_nodes u F t.plans ≡ nodes_of t
     nodes =
-        ap₂ (λ y fs. plan_nodes y fs (contents t.plans)) seen st.grew ∙ (plans-grow (view_in t) [] bs (own_entries n) (contents t.fields) st.new t.stored (contents t.plans) t.sound).1
+        ap₂ (λ y fs. plan_nodes y fs t.plans) seen st.grew ∙ (plans-grow (view_in t) [] bs (own_entries n) t.fields st.new t.stored t.plans t.sound).1
 
     new-long : length st.new ≡ length ds
     new-long = sym (length-map st.new (stored_field u.bytes)) ∙ ap length st.fields ∙ length-map ds (draft_field w (word w.bytes x.owner) (word w.bytes x.given))
 
     has-fields : fields_in u.bytes F new.fields ≡ fields_of (view_in t).functions (tree_for t n)
     has-fields =
-        ap (λ c. map (stored_field u.bytes) (part F first c)) (ce ∙ sym new-long) ∙ ap (map (stored_field u.bytes)) (part-added (contents t.fields) st.new F first st.grew fe) ∙ st.fields ∙ kept.0
+        ap (λ c. map (stored_field u.bytes) (part F first c)) (ce ∙ sym new-long) ∙ ap (map (stored_field u.bytes)) (part-added t.fields st.new F first st.grew fe) ∙ st.fields ∙ kept.0
 
-    has-tree : (build_plan u F (plan_nodes u F (contents t.plans)) new).tree ≡ tree_for t n
+    has-tree : (build_plan u F (plan_nodes u F t.plans) new).tree ≡ tree_for t n
     has-tree =
         let fs = fields_of (view_in t).functions (tree_for t n) in
         ap₂ (λ l ns. build_plan_node u l (node_trees ns) x.node) has-fields nodes
         ∙ ap (λ y. build_plan_node y fs (trees_in t) x.node) st.view ∙ (node-grow w [] st.bytes [] k x.node px.inside).1 fs (trees_in t)
         ∙ px.tree fs (trees_in t) (ap (λ j. fields_of (view_in t).functions (tree_over (view_in t) j (trees_in t) n)) (sym ke)) ∙ ap (λ j. tree_over (view_in t) j (trees_in t) n) ke
 
-    is-inside : inside_plan u F (length (contents t.plans)) new ≡ true
+    is-inside : inside_plan u F (length t.plans) new ≡ true
     is-inside =
         let l = and_parts (leb (length (fields_of (view_in t).functions (tree_for t n))) 64 && leb (plan_size_of (tree_for t n)) 64) (every small_tree (expressions_of (tree_for t n)) && every (short_name (view_in t).functions) (shown_expressions (tree_for t n))) lim in
         let m = and_parts (leb (length (fields_of (view_in t).functions (tree_for t n))) 64) (leb (plan_size_of (tree_for t n)) 64) l.0 in
-        let kl : k ≡ length (contents t.plans) = ke ∙ counted t in
+        let kl : k ≡ length t.plans = ke ∙ counted t in
         and_from _ _ (and_from _ _ (ap₂ (λ y j. inside_node y j x.node) st.view (sym kl) ∙ (node-grow w [] st.bytes [] k x.node px.inside).0) (ap (λ y. accepted_node y.bytes x.node) st.view ∙ accepted-grow w [] st.bytes [] k x.node px.inside ∙ px.accepted named))
-        (and_from _ _ (and_from _ _ (le-leb (first + count) (length F) (omega (arith, ap length st.grew, length-append (contents t.fields) st.new, new-long, fe, ce))) (le-leb count 64 (omega (arith, leb-true _ _ m.0, draft-long, ce))))
-        (and_from _ _ (le-leb number.0 (length (contents t.plans)) (omega (arith, kl, ne))) (le-leb size 64 (omega (arith, leb-true _ _ m.1, se)))))
+        (and_from _ _ (and_from _ _ (le-leb (first + count) (length F) (omega (arith, ap length st.grew, length-append t.fields st.new, new-long, fe, ce))) (le-leb count 64 (omega (arith, leb-true _ _ m.0, draft-long, ce))))
+        (and_from _ _ (le-leb number.0 (length t.plans) (omega (arith, kl, ne))) (le-leb size 64 (omega (arith, leb-true _ _ m.1, se)))))
 
     pub added-facts : PlanFacts u F R
     added-facts =
-        facts-push u F (contents t.plans) R new Re before is-inside (has-fields ∙ ap₂ fields_of (sym (ap (λ y. y.functions) seen)) (sym has-tree)) (se ∙ ap plan_size_of (sym has-tree))
+        facts-push u F t.plans R new Re before is-inside (has-fields ∙ ap₂ fields_of (sym (ap (λ y. y.functions) seen)) (sym has-tree)) (se ∙ ap plan_size_of (sym has-tree))
 
     all-nodes : plan_nodes u F R ≡ nodes_of t ++ record { tree = tree_for t n; origin = plan_count t } ∷ []
     all-nodes =
-        nodes-push u F (contents t.plans) R new Re before
+        nodes-push u F t.plans R new Re before
         ∙ ap₂ (λ ns m. ns ++ m ∷ []) nodes (ap₂ (λ a b. record { tree = a; origin = b }) has-tree (ne ∙ ke))
 
     all-inputs : inputs_from u.entries R ≡ (model_of t).inputs ++ inputs_for n ∷ []
     all-inputs =
-        ap (inputs_from u.entries) Re ∙ map_push (λ r. node_inputs u.entries r.node) (contents t.plans) new
-        ∙ ap₂ (λ ns m. ns ++ m ∷ []) (ap (λ y. inputs_from y.entries (contents t.plans)) seen ∙ all-inputs-grow (view_in t) [] bs (own_entries n) (contents t.fields) st.new t.stored 0 (contents t.plans) t.sound)
+        ap (inputs_from u.entries) Re ∙ map_push (λ r. node_inputs u.entries r.node) t.plans new
+        ∙ ap₂ (λ ns m. ns ++ m ∷ []) (ap (λ y. inputs_from y.entries t.plans) seen ∙ all-inputs-grow (view_in t) [] bs (own_entries n) t.fields st.new t.stored 0 t.plans t.sound)
         (ap (λ y. node_inputs y.entries x.node) st.view ∙ inputs-grow w [] st.bytes [] k x.node px.inside ∙ px.inputs)
 
     pub added : NodeStored t n number.0 (model_from u F R)
@@ -188,7 +190,7 @@ module _ (t : Tables) (n : NewNode) (k : ℕ) (ds : List DraftField) (dr : Shown
               (ap (λ y. length y.trees) seen ∙ ap length (append-nil (view_in t).trees) ∙ plain (length (view_in t).trees))
               (ap length all-nodes ∙ length_push (nodes_of t) _)
               (ap (λ y. length y.entries) seen ∙ length-append (view_in t).entries (own_entries n) ∙ ap (λ j. length (view_in t).entries + j) (own-entries n))
-              (ap length st.grew ∙ length-append (contents t.fields) st.new ∙ ap (λ j. length (contents t.fields) + j) (new-long ∙ draft-long))
+              (ap length st.grew ∙ length-append t.fields st.new ∙ ap (λ j. length t.fields + j) (new-long ∙ draft-long))
               (ap (λ y. length y.bytes) seen ∙ length-append (view_in t).bytes bs ∙ ap (λ j. length (view_in t).bytes + j) (length-append (own_text n) st.bytes ∙ ap₂ (λ a b. a + b) (own-bytes n) (st.used ∙ kept.2)));
         }
       where

@@ -2,7 +2,7 @@
 use Rattle.std.proofs.Common.{◌≡◌, ℕ, ◌+◌, ◌*◌, ◌<◌, ◌≤◌, Bool, true, false, cond, eqb, List, [], ◌∷◌, ◌++◌, map, length, get_or, sum_by, sym, refl, ap, ◌∙◌, subst, ap₂, arith}
 use Rattle.std.proofs.lemmas.List.{map-append, append_assoc, length-map}
 use Rattle.std.proofs.lemmas.List.Sums.{sum_by-append}
-use Rattle.std.proofs.lemmas.Bool.{and_parts, and_from, ltb-true}
+use Rattle.std.proofs.lemmas.Bool.{and_parts, ltb-true}
 use Rattle.plan.specs.Names.{Name, good_name}
 use Rattle.plan.specs.Terms.{Field, Expr}
 use Rattle.plan.specs.Functions.{Functions}
@@ -14,20 +14,20 @@ use Rattle.plan.specs.Model.{plan_in, plans_in}
 use Rattle.plan.specs.Calls.{below, all_below, first_part, parts, union_of, rendered_bytes}
 use Rattle.plan.specs.declared.code.JoinKind.{JoinKind}
 use Rattle.terms.specs.Spans.{stored_field, stored_in}
+use Rattle.names.specs.Spans.{word, span_in}
 use Rattle.terms.specs.Views.{View}
 use Rattle.terms.specs.declared.node.PlanId.{PlanId}
 use Rattle.terms.specs.declared.node.StoredField.{StoredField}
 use Rattle.terms.proofs.Bounds.{name-short}
 use Rattle.terms.proofs.Frames.{every_append}
-use Rattle.names.specs.Pieces.{piece_of, piece_in}
-use Rattle.names.specs.declared.parts.Piece.{Piece}
-use Rattle.draft.specs.Drafts.{as_stored, as_owned, as_bare, draft_field, draft_in, draft_bytes, field_bytes, FieldsFor}
+use Rattle.names.specs.declared.parts.Span.{Span}
+use Rattle.draft.specs.Drafts.{as_stored, as_owned, as_bare, as_column, draft_field, draft_in, draft_bytes, field_bytes, FieldsFor}
 use Rattle.draft.specs.declared.word.DraftField.{DraftField}
-use Rattle.draft.proofs.Fields.{stored-fields, owned-fields, bare-fields, stored-inside, owned_inside, bare-inside, stored_bytes, owned-bytes, bare-bytes}
+use Rattle.draft.proofs.Fields.{stored-fields, owned-fields, bare-fields, stored-inside, owned_inside, bare-inside, stored_bytes, owned-bytes, bare-bytes, column-fields, column-inside, column-bytes}
 use Rattle.tables.specs.Holding.{view_in}
 use Rattle.tables.specs.Making.{tree_for, input_numbers}
 use Rattle.tables.specs.Placing.{lent_owner, lent_given}
-use Rattle.tables.specs.Drafting.{DraftOf, as_piece}
+use Rattle.tables.specs.Drafting.{DraftOf}
 use Rattle.tables.specs.declared.node.NewNode.{NewNode}
 use Rattle.tables.specs.declared.tables.Tables.{Tables}
 
@@ -118,27 +118,13 @@ lists-draft v o g es us before mid after e p q =
 
 -- the names of a Table
 module _ (v : View) (o g : List ℕ) where
-  piece-fields : (ps : List Piece) → map (draft_field v o g) (map as_piece ps) ≡ map (column_of o) (map (piece_of g) ps)
-  piece-fields [] = refl
-  piece-fields (p ∷ ps) = ap (λ l. column_of o (piece_of g p) ∷ l) (piece-fields ps)
-
-  piece_inside : (ps : List Piece) → every (piece_in g) ps ≡ true → every (draft_in v o g) (map as_piece ps) ≡ true
-  piece_inside [] h = refl
-  piece_inside (p ∷ ps) h =
-      let q = and_parts (piece_in g p) (every (piece_in g) ps) h in
-      and_from _ _ (and_from _ _ q.0 refl) (piece_inside ps q.1)
-
-  piece_bytes : (ps : List Piece) → draft_bytes v (map as_piece ps) ≡ 0
-  piece_bytes [] = refl
-  piece_bytes (p ∷ ps) = omega (arith, Rattle.std.proofs.lemmas.List.Sums.sum_by-cons (field_bytes v) (as_piece p) (map as_piece ps), piece_bytes ps)
-
-  pub table-draft : (ps : List Piece) (before after : List DraftField) → before ≡ [] → after ≡ before ++ map as_piece ps → map (piece_of g) ps ≡ parts g → every (piece_in g) ps ≡ true → DraftOf v o g (map (column_of o) (parts g)) 0 after
+  pub table-draft : (ps : List Span) (before after : List DraftField) → before ≡ [] → after ≡ before ++ map as_column ps → map (word g) ps ≡ parts g → every (span_in g) ps ≡ true → DraftOf v o g (map (column_of o) (parts g)) 0 after
   table-draft ps before after e h p i =
-      let a : after ≡ map as_piece ps = h ∙ ap (λ l. l ++ map as_piece ps) e in
+      let a : after ≡ map as_column ps = h ∙ ap (λ l. l ++ map as_column ps) e in
       record {
-        fields = ap (map (draft_field v o g)) a ∙ piece-fields ps ∙ ap (map (column_of o)) p;
-        inside = ap (every (draft_in v o g)) a ∙ piece_inside ps i;
-        bytes = ap (draft_bytes v) a ∙ piece_bytes ps;
+        fields = ap (map (draft_field v o g)) a ∙ column-fields v o g ps ∙ ap (map (column_of o)) p;
+        inside = ap (every (draft_in v o g)) a ∙ column-inside v o g ps i;
+        bytes = ap (draft_bytes v) a ∙ column-bytes v ps;
       }
 
 -- a text with few and short parts is short

@@ -1,7 +1,6 @@
 -- Where the other tables have room, it is the text that decides.
 use Rattle.std.proofs.Common.{◌≡◌, ◌+◌, ◌≤◌, ◌&&◌, leb, length, sym, ◌∙◌, ap₂, arith}
 use Rattle.std.proofs.lemmas.Bool.{le-leb}
-use Rattle.table.proofs.Held.{held}
 use Rattle.plan.specs.Model.{Space, fits}
 use Rattle.terms.proofs.Facts.{counted}
 use Rattle.tables.specs.Holding.{view_in}
@@ -14,4 +13,4 @@ rest-fits u m e p l f =
 
 -- there are never too many expressions
 pub exprs-fit : (t : Tables) → length (view_in t).trees + 0 ≤ 1024
-exprs-fit t = omega (arith, counted t.terms, held t.terms.exprs)
+exprs-fit t = omega (arith, counted t.terms, t.terms.few)

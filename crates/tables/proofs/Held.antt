@@ -2,7 +2,6 @@
 use Rattle.std.proofs.Common.{◌≡◌, ℕ, ◌<◌, [], length, get_or, sym, ap, ◌∙◌, arith}
 use Rattle.std.proofs.lemmas.List.{get_or-map}
 use Rattle.std.proofs.lemmas.Bool.{leb-true}
-use Rattle.table.specs.Contents.{contents}
 use Rattle.tables.specs.Holding.{view_in, trees_in, plan_count}
 use Rattle.tables.specs.Reading.{ReadsAs}
 use Rattle.tables.specs.Stored.{build_plan_node, node_inputs}
@@ -10,20 +9,20 @@ use Rattle.tables.specs.declared.node.PlanRecord.{PlanRecord}
 use Rattle.tables.specs.declared.tables.Tables.{Tables}
 use Rattle.tables.proofs.PlanFacts.{PlanFacts, plan-at, nodes-length}
 
-pub facts-in : (t : Tables) → PlanFacts (view_in t) (contents t.fields) (contents t.plans)
+pub facts-in : (t : Tables) → PlanFacts (view_in t) t.fields t.plans
 facts-in t = record { are-stored = t.stored; are-sound = t.sound; are-fielded = t.fielded; have-sizes = t.sizes }
 
-pub counted : (t : Tables) → plan_count t ≡ length (contents t.plans)
-counted t = nodes-length (view_in t) (contents t.fields) (contents t.plans)
+pub counted : (t : Tables) → plan_count t ≡ length t.plans
+counted t = nodes-length (view_in t) t.fields t.plans
 
-pub reads_as : (t : Tables) (i : ℕ) (r : PlanRecord) → i < plan_count t → r ≡ get_or (contents t.plans) i r → ReadsAs t i r
+pub reads_as : (t : Tables) (i : ℕ) (r : PlanRecord) → i < plan_count t → r ≡ get_or t.plans i r → ReadsAs t i r
 reads_as t i r lt e =
-    let a = plan-at (view_in t) (contents t.fields) (contents t.plans) i r (facts-in t) (omega (arith, counted t)) e in
+    let a = plan-at (view_in t) t.fields t.plans i r (facts-in t) (omega (arith, counted t)) e in
     record {
       tree = a.tree ∙ ap (λ fs. build_plan_node (view_in t) fs (trees_in t) r.node) a.has-fields;
       inside = a.inside;
       accepted = a.accepted;
-      inputs = get_or-map (λ x. node_inputs (view_in t).entries x.node) (contents t.plans) i r [] (omega (arith, counted t)) ∙ ap (λ x. node_inputs (view_in t).entries x.node) (sym e);
+      inputs = get_or-map (λ x. node_inputs (view_in t).entries x.node) t.plans i r [] (omega (arith, counted t)) ∙ ap (λ x. node_inputs (view_in t).entries x.node) (sym e);
       run = a.run;
       few = leb-true _ _ a.few;
       fields = a.has-fields;

@@ -2,18 +2,18 @@
 use Rattle.std.proofs.Common.{◌≡◌, ℕ, ◌<◌, true, ◌&&◌, ltb, List, length, get_or, sym, refl, ap, ◌∙◌, subst, arith}
 use Rattle.std.proofs.lemmas.List.{length-map, get_or_default}
 use Rattle.std.proofs.lemmas.Bool.{and_parts, and_from, leb-true, ltb-true}
-use Rattle.table.specs.Contents.{contents, part}
+use Rattle.table.specs.Contents.{part}
 use Rattle.table.proofs.Parts.{length_part}
 use Rattle.plan.specs.Model.{no_node, inputs_at, tree_at}
 use Rattle.plan.specs.Calls.{below, all_below}
-use Rattle.terms.specs.Build.{entry_number}
+use Rattle.terms.specs.Entries.{entry_number}
 use Rattle.terms.specs.Views.{View}
 use Rattle.terms.specs.declared.node.Entry.{Entry}
 use Rattle.terms.proofs.Frames.{every-at}
 use Rattle.tables.specs.Holding.{view_in, nodes_of, trees_in, tree_in, fields_at, model_of, plan_count}
 use Rattle.tables.specs.Reading.{ReadsAs}
 use Rattle.tables.specs.Stored.{build_plan_node, node_inputs, inside_node, accepted_node, run_in, run_numbers, list_in}
-use Rattle.tables.specs.declared.node.Run.{Run}
+use Rattle.terms.specs.declared.node.Run.{Run}
 use Rattle.tables.specs.declared.node.PlanNode.{PlanNode}
 use Rattle.tables.specs.declared.node.PlanNode.TheVariants.{Table, Projection, Filter, Sort, Limit, Aggregate, Join, SubqueryAlias, Union}
 use Rattle.tables.specs.declared.node.PlanRecord.{PlanRecord}
@@ -35,9 +35,9 @@ as-node t p r n h e = subst (λ x. NodeReads t p x) e (record { tree = h.tree; i
 abbrev filler : PlanRecord
 filler = record { node = Limit (record { 0 = 0 }) 0 0; fields = record { first = 0; count = 0 }; size = 0; origin = record { 0 = 0 } }
 
-pub node_at_lem : (t : Tables) (p : ℕ) → p < plan_count t → NodeReads t p (get_or (contents t.plans) p filler).node
+pub node_at_lem : (t : Tables) (p : ℕ) → p < plan_count t → NodeReads t p (get_or t.plans p filler).node
 node_at_lem t p lt =
-    let rs = contents t.plans in
+    let rs = t.plans in
     let r = get_or rs p filler in
     as-node t p r r.node (reads_as t p r lt (get_or_default rs p filler r (omega (arith, counted t)))) refl
 

@@ -8,22 +8,23 @@ use Rattle.plan.specs.Plans.{Plan, fields_of, column_of}
 use Rattle.plan.specs.Plans.Plan.{table, subquery_alias}
 use Rattle.plan.specs.Model.{exprs_in, plan_in}
 use Rattle.plan.specs.Calls.{all_below, parts}
-use Rattle.terms.specs.Build.{entry_number}
-use Rattle.terms.specs.Spans.{word, span_in}
+use Rattle.terms.specs.Entries.{entry_number}
+use Rattle.names.specs.Spans.{word, span_in}
 use Rattle.terms.specs.Views.{View, grown, numbers_of}
 use Rattle.terms.specs.declared.node.Entry.{Entry}
 use Rattle.terms.specs.declared.node.Entry.TheVariants.{Expression, Input}
 use Rattle.terms.specs.declared.node.ExprId.{ExprId}
 use Rattle.terms.specs.declared.node.PlanId.{PlanId}
-use Rattle.terms.specs.declared.node.Span.{Span}
+use Rattle.names.specs.declared.parts.Span.{Span}
 use Rattle.terms.proofs.Calling.{entries-numbers}
 use Rattle.terms.proofs.Frames.{span_grow}
 use Rattle.terms.proofs.Facts.{grown-twice, same_view}
 use Rattle.tables.specs.Stored.{run_numbers, run_exprs, run_keys, key_at, list_in, inside_node, build_plan_node, node_inputs, accepted_node}
 use Rattle.tables.specs.Making.{new_key, key_numbers, input_numbers, tree_over, inputs_for, well_named}
-use Rattle.tables.specs.Placing.{key_entry, own_text, own_entries, lent_owner, lent_given, namelessly, PlacedAs}
+use Rattle.tables.specs.Keys.{key_entry}
+use Rattle.tables.specs.Placing.{own_text, own_entries, lent_owner, lent_given, namelessly, PlacedAs}
 use Rattle.tables.specs.Listing.{ListedAs}
-use Rattle.tables.specs.declared.node.Run.{Run}
+use Rattle.terms.specs.declared.node.Run.{Run}
 use Rattle.tables.specs.declared.node.SortKey.{SortKey}
 use Rattle.tables.specs.declared.node.PlanNode.{PlanNode}
 use Rattle.tables.specs.declared.node.PlanNode.TheVariants.{Table, SubqueryAlias}

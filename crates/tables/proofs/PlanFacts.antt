@@ -13,7 +13,8 @@ use Rattle.plan.specs.Plans.Plan.{projection, filter, sort, limit, aggregate, jo
 use Rattle.plan.specs.Fields.{every}
 use Rattle.plan.specs.Model.{Node, expr_in, plan_in, plans_in, no_plan}
 use Rattle.plan.specs.Calls.{below, all_below, union_of}
-use Rattle.terms.specs.Spans.{word, stored_in}
+use Rattle.terms.specs.Spans.{stored_in}
+use Rattle.names.specs.Spans.{word}
 use Rattle.terms.specs.Views.{View, grown}
 use Rattle.terms.specs.declared.node.Entry.{Entry}
 use Rattle.terms.specs.declared.node.StoredField.{StoredField}

@@ -28,12 +28,6 @@ module _ (t : Tables) where
   one-small : (i : ℕ) → i < length (view_in t).trees → small_tree (expr_in (view_in t).trees i) ≡ true
   one-small i lt = le-leb _ _ (small (view_in t).functions (expr_in (view_in t).trees i) (one-accepted i lt))
 
-  -- a rendered name is at most so long
-  pub name-le : (i : ℕ) → i < length (view_in t).trees → width_of (view_in t).functions (expr_in (view_in t).trees i) ≤ 130816
-  name-le i lt =
-      let e = expr_in (view_in t).trees i in
-      omega (arith, width-le (view_in t).functions t.terms.lexicon.good e (one-accepted i lt), small (view_in t).functions e (one-accepted i lt))
-
   list-small : (ns : List ℕ) → all_below (length (view_in t).trees) ns ≡ true → every small_tree (exprs_in (view_in t).trees ns) ≡ true
   list-small [] h = refl
   list-small (n ∷ ns) h =
@@ -54,13 +48,6 @@ module _ (t : Tables) where
   all_small (Join k l r cs) h = list-small (numbers_of cs.now) (join-in t (Join k l r cs) h k l r cs refl).2
   all_small (SubqueryAlias i n) h = refl
   all_small (Union is) h = ap (every small_tree) (union-expressions (plans_in (trees_in t) (input_numbers is.now)))
-
--- a name is short by the bytes that it takes
-pub short-bytes : (fs : Functions) (e : Expr) → short_name fs e ≡ leb (rendered_bytes fs e) 255
-short-bytes fs (literal v) = refl
-short-bytes fs (reference f) = refl
-short-bytes fs (alias e f) = refl
-short-bytes fs (call n es) = refl
 
 -- question 8, where fields, nodes and expressions keep their limits
 pub within : (fs : Functions) (p : Plan) → length (fields_of fs p) ≤ 64 → plan_size_of p ≤ 64 → every small_tree (expressions_of p) ≡ true → every (short_name fs) (shown_expressions p) ≡ limited fs p

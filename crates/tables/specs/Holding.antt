@@ -3,7 +3,6 @@
 --     model_of t      all of it
 --     tree_in t p, fields_at t p      the tree and the fields of one node
 use Rattle.std.specs.Prelude.{ℕ, List, length}
-use Rattle.table.specs.Contents.{contents}
 use Rattle.plan.specs.Terms.{Field}
 use Rattle.plan.specs.Plans.{Plan, fields_of}
 use Rattle.plan.specs.Model.{Model, Node, space, plan_in}
@@ -17,10 +16,10 @@ abbrev pub view_in : Tables → View
 view_in t = view_of t.terms
 
 abbrev pub nodes_of : Tables → List Node
-nodes_of t = plan_nodes (view_in t) (contents t.fields) (contents t.plans)
+nodes_of t = plan_nodes (view_in t) t.fields t.plans
 
 abbrev pub trees_in : Tables → List Plan
-trees_in t = plan_trees (view_in t) (contents t.fields) (contents t.plans)
+trees_in t = plan_trees (view_in t) t.fields t.plans
 
 -- the model of expressions, fields and records
 abbrev pub model_from : View → List StoredField → List PlanRecord → Model
@@ -34,7 +33,7 @@ model_from v fields rs = record {
 }
 
 abbrev pub model_of : Tables → Model
-model_of t = model_from (view_in t) (contents t.fields) (contents t.plans)
+model_of t = model_from (view_in t) t.fields t.plans
 
 abbrev pub tree_in : Tables → ℕ → Plan
 tree_in t p = plan_in (trees_in t) p

@@ -2,11 +2,12 @@ pub mod Stored
 pub mod Holding
 pub mod Reading
 pub mod Making
+pub mod Asked
 pub mod Placing
 pub mod Listing
 pub mod Answering
 pub mod Drafting
 pub mod Looking
-pub mod Copying
+pub mod Keys
 pub mod Remaking
 pub mod Tracing

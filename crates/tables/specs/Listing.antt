@@ -5,7 +5,7 @@ use Rattle.table.specs.Contents.{part}
 use Rattle.terms.specs.Views.{View, grown}
 use Rattle.terms.specs.declared.node.Entry.{Entry}
 use Rattle.tables.specs.Stored.{run_in}
-use Rattle.tables.specs.declared.node.Run.{Run}
+use Rattle.terms.specs.declared.node.Run.{Run}
 
 pub record ListedAs (v : View) (es : List Entry) (r : Run) (v' : View) : Type 0 where
   pub view : v' ≡ grown v [] [] es

@@ -5,16 +5,16 @@
 use Rattle.std.specs.Prelude.{◌≡◌, ℕ, true, List, [], ◌++◌, map}
 use Rattle.plan.specs.Terms.{Field}
 use Rattle.plan.specs.Plans.{Plan, fields_of}
-use Rattle.terms.specs.Spans.{word, span_in}
+use Rattle.names.specs.Spans.{word, span_in}
 use Rattle.terms.specs.Views.{View, grown}
 use Rattle.terms.specs.declared.node.Entry.{Entry}
-use Rattle.terms.specs.declared.node.Entry.TheVariants.{Expression, Key, Input}
+use Rattle.terms.specs.declared.node.Entry.TheVariants.{Expression, Input}
+use Rattle.tables.specs.Keys.{key_entry}
 use Rattle.tables.specs.Stored.{build_plan_node, node_inputs, inside_node, accepted_node}
 use Rattle.tables.specs.Making.{tree_over, inputs_for, well_named}
 use Rattle.tables.specs.declared.node.NewNode.{NewNode}
 use Rattle.tables.specs.declared.node.PlanNode.{PlanNode}
 use Rattle.tables.specs.declared.node.NewNode.TheVariants.{Table, Projection, Filter, Sort, Limit, Aggregate, Join, SubqueryAlias, Union}
-use Rattle.tables.specs.declared.node.SortKey.{SortKey}
 use Rattle.tables.specs.declared.placing.Placed.{Placed}
 
 abbrev pub own_text : NewNode → List ℕ
@@ -27,9 +27,6 @@ own_text (Aggregate i gs us) = []
 own_text (Join k l r cs) = []
 own_text (SubqueryAlias i n) = n.now
 own_text (Union is) = []
-
-abbrev pub key_entry : SortKey → Entry
-key_entry k = Key k.by k.direction
 
 abbrev pub own_entries : NewNode → List Entry
 own_entries (Table q ns) = []

@@ -2,7 +2,7 @@
 #![tactic(auto)]
 
 mod copying;
-pub mod forming;
+mod keys;
 pub mod node;
 pub mod placing;
 pub mod tables;

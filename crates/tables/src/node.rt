@@ -1,13 +1,10 @@
 //! What one place of the plan table holds, and what a caller asks to be made.
-use plan::code::{Direction, JoinKind};
-use terms::node::{ExprId, PlanId, Span};
+ghost use Rattle.plan.specs.Codes.{direction_of};
+ghost use Rattle.std.specs.Prelude.{◌≡◌, None, Some, MatchResult};
 
-/// A part of the list table or of the field table.
-#[derive(Clone, Copy)]
-pub struct Run {
-    pub first: u32,
-    pub count: u32,
-}
+use plan::code::{Direction, JoinKind, UnknownCode};
+pub use terms::node::Run;
+use terms::node::{ExprId, PlanId, Span};
 
 /// One node of a plan; its lists stand in the list table. A Table keeps its own number.
 #[derive(Clone, Copy)]
@@ -70,10 +67,26 @@ pub struct SortKey {
 }
 
 /// A Sort key as a caller gives it, with the number of its direction.
+// A number, since outside a book codes and refusals are known by number.
 #[derive(Clone, Copy)]
 pub struct Key {
     pub by: ExprId,
     pub direction: u8,
+}
+
+impl TryFrom<Key> for SortKey {
+    type Error = UnknownCode;
+
+    ghost try_from_gives = { λ key r. MatchResult r
+        (λ sort_key. (sort_key.by ≡ key.by) × (direction_of key.direction ≡ Some sort_key.direction))
+        (λ unknown. (unknown.0 ≡ key.direction) × (direction_of key.direction ≡ None)) };
+
+    fn try_from(key: Key) -> Result<Self, UnknownCode> {
+        Ok(SortKey {
+            by: key.by,
+            direction: Direction::try_from(key.direction)?,
+        })
+    }
 }
 
 /// A node that is to be made.

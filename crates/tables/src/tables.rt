@@ -2,16 +2,16 @@
 ghost use Rattle.tables.specs.Stored.{fielded, plan_trees, sound_plans};
 ghost use Rattle.plan.specs.Fields.{every};
 ghost use Rattle.plan.specs.Plans.{plan_size_of};
-ghost use Rattle.table.specs.Contents.{contents};
 ghost use Rattle.terms.specs.Spans.{stored_in};
 ghost use Rattle.terms.specs.Views.{view_of};
-ghost use Rattle.std.specs.Prelude.{◌≡◌, true, map};
+ghost use Rattle.std.specs.Prelude.{◌≡◌, ◌≤◌, true, map, length};
 
 use crate::node::PlanRecord;
 use table::table::Table;
 use terms::node::StoredField;
 use terms::terms::Terms;
 
+mod asked;
 mod asking;
 mod drafting;
 mod expressions;
@@ -31,8 +31,10 @@ pub struct Tables {
     terms: Terms,
     fields: Table<StoredField, 2048>,
     plans: Table<PlanRecord, 128>,
-    ghost stored: { every (stored_in (view_of terms).bytes) (contents fields) ≡ true },
-    ghost sound: { sound_plans (view_of terms) (contents fields) (contents plans) ≡ true },
-    ghost fielded: { fielded (view_of terms) (contents fields) (contents plans) ≡ true },
-    ghost sizes: { map (λ r. r.size) (contents plans) ≡ map plan_size_of (plan_trees (view_of terms) (contents fields) (contents plans)) },
+    ghost few_fields: { length fields ≤ 2048 },
+    ghost few_plans: { length plans ≤ 128 },
+    ghost stored: { every (stored_in (view_of terms).bytes) fields ≡ true },
+    ghost sound: { sound_plans (view_of terms) fields plans ≡ true },
+    ghost fielded: { fielded (view_of terms) fields plans ≡ true },
+    ghost sizes: { map (λ r. r.size) plans ≡ map plan_size_of (plan_trees (view_of terms) fields plans) },
 }

@@ -16,14 +16,9 @@ impl Tables {
     {
         match self.record_of(p).node {
             PlanNode::Table { .. } => 0,
-            PlanNode::Projection { .. } => 1,
-            PlanNode::Filter { .. } => 1,
-            PlanNode::Sort { .. } => 1,
-            PlanNode::Limit { .. } => 1,
-            PlanNode::Aggregate { .. } => 1,
             PlanNode::Join { .. } => 2,
-            PlanNode::SubqueryAlias { .. } => 1,
             PlanNode::Union { inputs } => inputs.count,
+            _ => 1,
         }
     }
 
@@ -35,17 +30,16 @@ impl Tables {
         ensures lower { result.0 < p.0 }
     {
         match self.record_of(p).node {
+            // Excluded by the contract. An Option here would move the same test to each caller.
             PlanNode::Table { .. } => p,
-            PlanNode::Projection { input, .. } => input,
-            PlanNode::Filter { input, .. } => input,
-            PlanNode::Sort { input, .. } => input,
-            PlanNode::Limit { input, .. } => input,
-            PlanNode::Aggregate { input, .. } => input,
+            PlanNode::Projection { input, .. }
+            | PlanNode::Filter { input, .. }
+            | PlanNode::Sort { input, .. }
+            | PlanNode::Limit { input, .. }
+            | PlanNode::Aggregate { input, .. }
+            | PlanNode::SubqueryAlias { input, .. } => input,
             PlanNode::Join { left, right, .. } => { if position == 0 { left } else { right } }
-            PlanNode::SubqueryAlias { input, .. } => input,
-            PlanNode::Union { inputs } => {
-                PlanId(self.terms.listed(inputs.first, inputs.count, position).0)
-            }
+            PlanNode::Union { inputs } => { PlanId(self.terms.listed(inputs, position).0) }
         }
     }
 }

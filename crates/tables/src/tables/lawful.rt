@@ -1,17 +1,18 @@
 //! Whether the fields of a new node may stand together.
 ghost use Rattle.std.specs.Prelude.{◌≡◌, ◌<◌, true, ◌++◌};
 ghost use Rattle.tables.specs.Holding.{fields_at, plan_count, view_in};
-ghost use Rattle.tables.specs.Making.{bounded, present, tree_for, well_named};
+ghost use Rattle.tables.specs.Asked.{functions_for, new_fields, new_tree};
 ghost use Rattle.tables.specs.Placing.{lent_given, lent_owner};
 ghost use Rattle.plan.specs.Fields.{lawful};
 ghost use Rattle.plan.specs.Plans.{fields_of};
 ghost use Rattle.plan.specs.Questions.{joint_fields};
 
 use super::Tables;
+use super::asked::Asked;
 use crate::node::NewNode;
 use draft::building::push_stored;
-use draft::lawful::is_lawful;
-use draft::word::{DraftField, DraftQualifier, Word};
+use draft::lawful::Source;
+use draft::word::{DraftField, Relation, Word};
 use table::table::Table;
 use terms::node::PlanId;
 use terms::terms::Terms;
@@ -19,7 +20,7 @@ use terms::terms::Terms;
 /// What fills the places of a draft that are not used.
 pub(super) fn blank() -> DraftField {
     DraftField {
-        qualifier: DraftQualifier::Bare,
+        qualifier: None,
         name: Word::Owner,
     }
 }
@@ -30,14 +31,8 @@ fn lent_owner<'a>(node: NewNode<'a>) -> &'a [u8]
 {
     match node {
         NewNode::Table { qualifier, .. } => qualifier,
-        NewNode::Projection { .. } => b"",
-        NewNode::Filter { .. } => b"",
-        NewNode::Sort { .. } => b"",
-        NewNode::Limit { .. } => b"",
-        NewNode::Aggregate { .. } => b"",
-        NewNode::Join { .. } => b"",
         NewNode::SubqueryAlias { name, .. } => name,
-        NewNode::Union { .. } => b"",
+        _ => b"",
     }
 }
 
@@ -47,14 +42,7 @@ fn lent_given<'a>(node: NewNode<'a>) -> &'a [u8]
 {
     match node {
         NewNode::Table { names, .. } => names,
-        NewNode::Projection { .. } => b"",
-        NewNode::Filter { .. } => b"",
-        NewNode::Sort { .. } => b"",
-        NewNode::Limit { .. } => b"",
-        NewNode::Aggregate { .. } => b"",
-        NewNode::Join { .. } => b"",
-        NewNode::SubqueryAlias { .. } => b"",
-        NewNode::Union { .. } => b"",
+        _ => b"",
     }
 }
 
@@ -67,42 +55,36 @@ impl Tables {
         let mut draft = Table::new(blank());
         push_stored(&mut draft, self.fields_of(left));
         push_stored(&mut draft, self.fields_of(right));
-        is_lawful(&self.terms, b"", b"", draft.as_slice())
+        let source = Source {
+            terms: &self.terms,
+            owner: b"",
+            given: b"",
+        };
+        source.is_lawful(draft.as_slice())
     }
+}
 
-    fn is_lawful_shown(&self, node: NewNode<'_>) -> bool
-        requires present { present self.now node ≡ true }
-        requires bounded { bounded node ≡ true }
-        requires named { well_named node ≡ true }
-        ensures { result ≡ lawful (fields_of (view_in self.now).functions (tree_for self.now node.entry)) }
+impl Asked<'_, '_> {
+    fn is_lawful_shown(self) -> bool
+        ensures { result ≡ lawful (new_fields self.entry) }
     {
         let mut draft = Table::new(blank());
-        self.draft_shown(node, &mut draft);
-        is_lawful(
-            &self.terms,
-            lent_owner(node),
-            lent_given(node),
-            draft.as_slice(),
-        )
+        self.draft_shown(&mut draft);
+        let source = Source {
+            terms: &self.tables.terms,
+            owner: lent_owner(self.node),
+            given: lent_given(self.node),
+        };
+        source.is_lawful(draft.as_slice())
     }
 
     /// Whether the fields of the new node, and of both sides of a join, may stand in one list.
-    pub(super) fn is_lawful_node(&self, node: NewNode<'_>) -> bool
-        requires present { present self.now node ≡ true }
-        requires bounded { bounded node ≡ true }
-        requires named { well_named node ≡ true }
-        ensures { result ≡ lawful (joint_fields (view_in self.now).functions (tree_for self.now node.entry)) }
+    pub(super) fn is_lawful_node(self) -> bool
+        ensures { result ≡ lawful (joint_fields (functions_for self.entry) (new_tree self.entry)) }
     {
-        match node {
-            NewNode::Table { .. } => self.is_lawful_shown(node),
-            NewNode::Projection { .. } => self.is_lawful_shown(node),
-            NewNode::Filter { .. } => self.is_lawful_shown(node),
-            NewNode::Sort { .. } => self.is_lawful_shown(node),
-            NewNode::Limit { .. } => self.is_lawful_shown(node),
-            NewNode::Aggregate { .. } => self.is_lawful_shown(node),
-            NewNode::Join { left, right, .. } => self.is_lawful_join(left, right),
-            NewNode::SubqueryAlias { .. } => self.is_lawful_shown(node),
-            NewNode::Union { .. } => self.is_lawful_shown(node),
+        match self.node {
+            NewNode::Join { left, right, .. } => self.tables.is_lawful_join(left, right),
+            _ => self.is_lawful_shown(),
         }
     }
 }

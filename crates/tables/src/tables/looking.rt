@@ -10,7 +10,8 @@ ghost use Rattle.plan.specs.Model.{expr_in};
 ghost use Rattle.plan.specs.declared.fault.Question.TheVariants.{Bounded, Present};
 ghost use Rattle.table.specs.Contents.{part};
 ghost use Rattle.terms.specs.Build.{numbers_in};
-ghost use Rattle.terms.specs.Spans.{function_in, span_in, stored_field, stored_in, word};
+ghost use Rattle.terms.specs.Spans.{function_in, stored_field, stored_in};
+ghost use Rattle.names.specs.Spans.{span_in, word};
 ghost use Rattle.terms.specs.Views.{tree_for};
 
 use super::Tables;
@@ -43,20 +44,15 @@ impl Tables {
         Ok(self.terms.node(e))
     }
 
-    fn has_field(&self, p: PlanId, i: u32) -> bool
-        requires { p.0 < plan_count self.now }
-        ensures { result ≡ nat_lt i (length (fields_at self.now p.0)) }
-    {
-        (i as usize) < self.fields_of(p).len()
-    }
-
     /// The field at a place of a node.
     pub fn field(&self, p: PlanId, i: u32) -> Result<StoredField, Fault>
         ensures { Looked ((Present, below (plan_count self.now) p.0) ∷ (Bounded, nat_lt i (length (fields_at self.now p.0))) ∷ []) (λ f. stored_field (view_in self.now).bytes f ≡ field_in self.now p.0 i) result }
     {
         ask(self.has(p), Question::Present)?;
-        ask(self.has_field(p, i), Question::Bounded)?;
-        Ok(self.fields_of(p)[i as usize])
+        self.fields_of(p)
+            .get(i as usize)
+            .copied()
+            .ok_or(Question::Bounded.refusal())
     }
 
     /// The declaration of a number, if there is one.
@@ -69,8 +65,7 @@ impl Tables {
     fn has_span(&self, span: Span) -> bool
         ensures { result ≡ span_in (model_of self.now).text span }
     {
-        let len = 16384 - self.terms.text_room();
-        (span.start as usize) + (span.len as usize) <= len
+        (span.start as usize) + (span.len as usize) <= self.terms.bytes().len()
     }
 
     /// The part of the text that a span names.
@@ -84,6 +79,7 @@ impl Tables {
     fn has_run(&self, run: Run, i: u32) -> bool
         ensures { result ≡ (nat_le (run.first + run.count) (entry_count self.now) && nat_lt i run.count) }
     {
+        // Counted back from the room: the list table lends only a run that is known to be inside it.
         let len = 2048 - self.terms.list_room();
         (run.first as usize) + (run.count as usize) <= len && i < run.count
     }
@@ -93,7 +89,7 @@ impl Tables {
         ensures { Looked ((Bounded, nat_le (run.first + run.count) (entry_count self.now) && nat_lt i run.count) ∷ []) (λ e. e.0 ≡ slice_index (numbers_in (view_in self.now).entries run.first run.count) i) result }
     {
         ask(self.has_run(run, i), Question::Bounded)?;
-        Ok(self.terms.listed(run.first, run.count, i))
+        Ok(self.terms.listed(run, i))
     }
 
     /// The entry at a place of a list: an expression, a Sort key with its direction, or a node.
@@ -101,7 +97,7 @@ impl Tables {
         ensures { Looked ((Bounded, nat_le (run.first + run.count) (entry_count self.now) && nat_lt i run.count) ∷ []) (λ e. (d : Entry) → e ≡ slice_index_or (part (view_in self.now).entries run.first run.count) i d) result }
     {
         ask(self.has_run(run, i), Question::Bounded)?;
-        Ok(self.terms.entry(run.first, run.count, i))
+        Ok(self.terms.entry(run, i))
     }
 
     /// The expressions, with the functions and the text.

@@ -7,10 +7,11 @@ ghost use Rattle.plan.specs.Model.{fits};
 ghost use Rattle.plan.specs.Questions.{limited};
 
 use super::Tables;
+use super::asked::Asked;
 use super::lawful::blank;
 use crate::node::{NewNode, PlanRecord, Run};
 use crate::placing::place;
-use draft::storing::store;
+use draft::storing::{Lent, store};
 use plan::fault::{Fault, Question, ask};
 use table::table::Table;
 use terms::node::PlanId;
@@ -26,16 +27,19 @@ impl Tables {
         ensures { NodeStored self.old node.entry result.0 (model_of self.new) }
     {
         let number = PlanId(self.plans.len() as u32);
-        let size = self.tree_size(node);
+        let asked = Asked { tables: self, node };
+        let size = asked.tree_size();
         let mut draft = Table::new(blank());
-        self.draft_shown(node, &mut draft);
+        asked.draft_shown(&mut draft);
         let placed = place(&mut self.terms, node, number);
         let first = self.fields.len() as u32;
         store(
             &mut self.terms,
             &mut self.fields,
-            placed.owner,
-            placed.given,
+            Lent {
+                owner: placed.owner,
+                given: placed.given,
+            },
             draft.as_slice(),
         );
         let count = draft.len() as u32;
@@ -55,10 +59,11 @@ impl Tables {
         requires named { well_named node ≡ true }
         ensures { NodeMade self.old node.entry result (model_of self.new) }
     {
-        ask(self.is_resolved(node), Question::Resolved)?;
-        ask(self.is_lawful_node(node), Question::Lawful)?;
-        ask(self.is_limited(node), Question::Limited)?;
-        ask(self.has_room(node), Question::Space)?;
+        let asked = Asked { tables: self, node };
+        ask(asked.is_resolved(), Question::Resolved)?;
+        ask(asked.is_lawful_node(), Question::Lawful)?;
+        ask(asked.is_limited(), Question::Limited)?;
+        ask(asked.has_room(), Question::Space)?;
         Ok(self.add(node))
     }
 }

@@ -8,7 +8,7 @@ use super::Tables;
 use crate::node::{PlanNode, PlanRecord, Run};
 use table::table::Table;
 use terms::lexicon::Lexicon;
-use terms::node::{PlanId, Qualifier, Span, StoredField};
+use terms::node::{PlanId, Span, StoredField};
 use terms::terms::Terms;
 
 impl Tables {
@@ -27,7 +27,7 @@ impl Tables {
         Tables {
             terms: Terms::open(lexicon),
             fields: Table::new(StoredField {
-                qualifier: Qualifier::Unqualified,
+                qualifier: None,
                 name: span,
             }),
             plans: Table::new(filler),

@@ -8,14 +8,13 @@ ghost use Rattle.plan.specs.Swapping.{swap_tree};
 ghost use Rattle.tables.specs.Holding.{model_of, plan_count, tree_in, trees_in, view_in};
 ghost use Rattle.tables.specs.Remaking.{TreeMade};
 ghost use Rattle.tables.specs.Stored.{list_in, run_exprs, run_in, run_keys, run_numbers};
-ghost use Rattle.terms.specs.Spans.{span_in, word};
+ghost use Rattle.names.specs.Spans.{span_in, word};
 
 use super::Tables;
-use crate::copying::{copy_exprs, copy_inputs, copy_keys, copy_name};
-use crate::forming::{filter_node, limit_node};
-use crate::node::{NewNode, PlanNode, Run};
+use crate::copying::{copied, copy_name};
+use crate::node::{NewNode, PlanNode, Run, SortKey};
 use plan::code::JoinKind;
-use plan::fault::{Fault, Question, Stage};
+use plan::fault::{Fault, Question};
 use table::table::Table;
 use terms::node::{ExprId, PlanId, Span};
 use terms::terms::Terms;
@@ -27,7 +26,7 @@ impl Tables {
         requires few { nat_le list.count 64 ≡ true }
         ensures { TreeMade (model_of self.old) (projection (run_exprs (view_in self.old) list) (tree_in self.old input.0)) (input.0 ∷ []) result (model_of self.new) }
     {
-        let own = copy_exprs(self.terms.entries(list.first, list.count));
+        let own: Table<ExprId, 64> = copied(self.terms.entries(list));
         self.make(NewNode::Projection {
             input,
             list: own.as_slice(),
@@ -39,7 +38,7 @@ impl Tables {
         requires predicate { predicate.0 < length (view_in self.old).trees }
         ensures { TreeMade (model_of self.old) (filter (expr_in (view_in self.old).trees predicate.0) (tree_in self.old input.0)) (input.0 ∷ []) result (model_of self.new) }
     {
-        self.make(filter_node(input, predicate))
+        self.make(NewNode::Filter { input, predicate })
     }
 
     fn remake_sort(&mut self, input: PlanId, keys: Run) -> Result<PlanId, Fault>
@@ -48,7 +47,7 @@ impl Tables {
         requires few { nat_le keys.count 16 ≡ true }
         ensures { TreeMade (model_of self.old) (sort (run_keys (view_in self.old) keys) (tree_in self.old input.0)) (input.0 ∷ []) result (model_of self.new) }
     {
-        let own = copy_keys(self.terms.entries(keys.first, keys.count));
+        let own: Table<SortKey, 16> = copied(self.terms.entries(keys));
         self.make(NewNode::Sort {
             input,
             keys: own.as_slice(),
@@ -59,7 +58,7 @@ impl Tables {
         requires { input.0 < plan_count self.old }
         ensures { TreeMade (model_of self.old) (limit skip count (tree_in self.old input.0)) (input.0 ∷ []) result (model_of self.new) }
     {
-        self.make(limit_node(input, skip, count))
+        self.make(NewNode::Limit { input, skip, count })
     }
 
     fn remake_aggregate(&mut self, input: PlanId, groups: Run, totals: Run) -> Result<PlanId, Fault>
@@ -69,8 +68,8 @@ impl Tables {
         requires few { (nat_le groups.count 16 ≡ true) × (nat_le totals.count 16 ≡ true) }
         ensures { TreeMade (model_of self.old) (aggregate (run_exprs (view_in self.old) groups) (run_exprs (view_in self.old) totals) (tree_in self.old input.0)) (input.0 ∷ []) result (model_of self.new) }
     {
-        let by = copy_exprs(self.terms.entries(groups.first, groups.count));
-        let of = copy_exprs(self.terms.entries(totals.first, totals.count));
+        let by: Table<ExprId, 16> = copied(self.terms.entries(groups));
+        let of: Table<ExprId, 16> = copied(self.terms.entries(totals));
         self.make(NewNode::Aggregate {
             input,
             groups: by.as_slice(),
@@ -91,7 +90,7 @@ impl Tables {
         requires few { nat_le on.count 16 ≡ true }
         ensures { TreeMade (model_of self.old) (join kind (run_exprs (view_in self.old) on) (tree_in self.old left.0) (tree_in self.old right.0)) (left.0 ∷ right.0 ∷ []) result (model_of self.new) }
     {
-        let own = copy_exprs(self.terms.entries(on.first, on.count));
+        let own: Table<ExprId, 16> = copied(self.terms.entries(on));
         self.make(NewNode::Join {
             kind,
             left,
@@ -121,7 +120,7 @@ impl Tables {
         requires input { input.0 < plan_count self.old }
         ensures { TreeMade (model_of self.old) (union_of (plans_in (trees_in self.old) (slice_set (run_numbers (view_in self.old).entries inputs) position input.0))) (slice_set (run_numbers (view_in self.old).entries inputs) position input.0) result (model_of self.new) }
     {
-        let mut own = copy_inputs(self.terms.entries(inputs.first, inputs.count));
+        let mut own: Table<PlanId, 8> = copied(self.terms.entries(inputs));
         own.set(position as usize, input);
         self.make(NewNode::Union {
             inputs: own.as_slice(),
@@ -143,11 +142,7 @@ impl Tables {
         ensures { TreeMade (model_of self.old) (swap_tree (model_of self.old) p.0 position input.0) (slice_set (inputs_at (model_of self.old) p.0) position input.0) result (model_of self.new) }
     {
         match self.record_of(p).node {
-            PlanNode::Table { .. } => Err(Fault {
-                question: Question::Bounded,
-                stage: Stage::Call,
-                level: 0,
-            }),
+            PlanNode::Table { .. } => Err(Question::Bounded.refusal()),
             PlanNode::Projection { list, .. } => self.remake_projection(input, list),
             PlanNode::Filter { predicate, .. } => self.remake_filter(input, predicate),
             PlanNode::Sort { keys, .. } => self.remake_sort(input, keys),

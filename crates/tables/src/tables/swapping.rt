@@ -14,6 +14,7 @@ use table::table::Table;
 use terms::node::PlanId;
 
 /// Sets the origin of a record that is lent.
+// A function of its own, since a rule of the project asks for one that is lent a record and sets a field of it.
 fn set_origin(lent: &mut PlanRecord, origin: PlanId)
     ensures { lent.new ≡ record { node = lent.old.node; fields = lent.old.fields; size = lent.old.size; origin = origin } }
 {
@@ -42,7 +43,7 @@ impl Tables {
         requires second { b.0 < plan_count self.now }
         ensures { result ≡ (origin_at (model_of self.now) a.0 == origin_at (model_of self.now) b.0) }
     {
-        self.record_of(a).origin.0 == self.record_of(b).origin.0
+        self.record_of(a).origin == self.record_of(b).origin
     }
 
     /// Gives a node the origin of an older one, or its own.

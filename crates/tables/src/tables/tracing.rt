@@ -10,8 +10,9 @@ ghost use Rattle.tables.specs.Tracing.{WalkedTo, found_plan};
 
 use super::Tables;
 use crate::node::{PlanNode, Run};
-use names::{good_name, same_bytes};
+use names::good_name;
 use plan::fault::{Fault, Question, ask};
+use terms::listed::Listed;
 use terms::node::{ExprId, ExprNode, PlanId};
 use terms::terms::Terms;
 
@@ -22,10 +23,8 @@ impl Tables {
         ensures { result ≡ aliased name.now (expr_in (view_in self.now).trees e.0) }
     {
         match self.terms.node(e) {
-            ExprNode::Constant(_) => false,
-            ExprNode::Reference { .. } => false,
-            ExprNode::Alias { name: own, .. } => same_bytes(name, self.terms.word(own)),
-            ExprNode::Call { .. } => false,
+            ExprNode::Alias { field, .. } => name == self.terms.word(field.name),
+            _ => false,
         }
     }
 
@@ -34,12 +33,10 @@ impl Tables {
         requires { list_in (view_in self.now) list ≡ true }
         ensures { result ≡ any (aliased name.now) (run_exprs (view_in self.now) list) }
     {
-        for i in 0..list.count {
-            if self.is_aliased(self.terms.listed(list.first, list.count, i), name) {
-                return true;
-            }
-        }
-        false
+        self.terms
+            .entries(list)
+            .iter()
+            .any(|entry| self.is_aliased(ExprId::read(*entry), name))
     }
 
     /// Whether a node is a Projection with an alias of this name in its list.
@@ -48,15 +45,8 @@ impl Tables {
         ensures { result ≡ holds_alias name.now (tree_at (model_of self.now) p.0) }
     {
         match self.record_of(p).node {
-            PlanNode::Table { .. } => false,
             PlanNode::Projection { list, .. } => self.any_aliased(list, name),
-            PlanNode::Filter { .. } => false,
-            PlanNode::Sort { .. } => false,
-            PlanNode::Limit { .. } => false,
-            PlanNode::Aggregate { .. } => false,
-            PlanNode::Join { .. } => false,
-            PlanNode::SubqueryAlias { .. } => false,
-            PlanNode::Union { .. } => false,
+            _ => false,
         }
     }
 
@@ -68,6 +58,7 @@ impl Tables {
         if self.holds_alias(p, name) {
             return Some(p);
         }
+        // A `for`: in `find_map` the function calls itself inside a closure, and that asks for more than a short answer.
         let count = self.input_count(p);
         for k in 0..count {
             if let Some(q) = self.trace_from(self.input_at(p, k), name) {

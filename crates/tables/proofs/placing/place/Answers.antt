@@ -1,6 +1,6 @@
 use Rattle.std.proofs.Common.{◌≡◌, ◌+◌, ◌≤◌, true, ◌&&◌, leb, map, length, refl, ap, ◌∙◌, subst, ap₂, arith, length-append}
 use Rattle.std.proofs.lemmas.List.{length-map}
-use Rattle.std.proofs.lemmas.Bool.{and_parts, and_from, leb-true}
+use Rattle.std.proofs.lemmas.Bool.{and_parts, and_from}
 use Rattle.plan.specs.Plans.Plan.{projection, sort, aggregate, join}
 use Rattle.plan.specs.Model.{plan_in, plans_in}
 use Rattle.plan.specs.Names.{good_name}
@@ -8,7 +8,7 @@ use Rattle.plan.specs.Calls.{below, all_below, between, union_of}
 use Rattle.terms.specs.Views.{view_of, numbers_of}
 use Rattle.terms.specs.declared.node.Entry.TheVariants.{Expression, Input}
 use Rattle.tables.specs.Making.{present_in, bounded, bytes_for, entries_for, key_numbers}
-use Rattle.tables.specs.Placing.{key_entry}
+use Rattle.tables.specs.Keys.{key_entry}
 use Rattle.tables.specs.declared.node.NewNode.TheVariants.{Table, Projection, Sort, Aggregate, Join, SubqueryAlias, Union}
 use Rattle.tables.specs.declared.node.PlanNode.TheVariants.{Projection as ProjectionNode, Sort as SortNode, Aggregate as AggregateNode, Join as JoinNode, Union as UnionNode}
 use Rattle.tables.proofs.Placings.{few-listed, for-node, exprs-listed, sort-listed, inputs-listed, nameless-placed, table-placed, alias-placed, twice-listed, first-kept}
@@ -20,15 +20,11 @@ write-given-requires c =
     let h = subst (λ n. length v.bytes + bytes_for n ≤ 16384) c.in-Table.is c.requires.text in
     omega (arith, h, ap (λ x. length x.bytes) c.write-owner.ensures.view, length-append v.bytes c.in-Table.qualifier.now)
 
-pub list_expressions-totals-requires : goal.list_expressions-totals-requires
-list_expressions-totals-requires c =
+pub put-totals-requires : goal.put-totals-requires
+put-totals-requires c =
     let v = view_of c.args.terms.now in
     let h = subst (λ n. length v.entries + entries_for n ≤ 2048) c.in-Aggregate.is c.requires.lists in
-    let b = and_parts (leb (length c.in-Aggregate.groups.now) 16) (leb (length c.in-Aggregate.totals.now) 16) (subst (λ n. bounded n ≡ true) c.in-Aggregate.is c.requires.bounded) in
-    record {
-      few = omega (arith, leb-true _ _ b.1);
-      room = omega (arith, h, ap (λ x. length x.entries) c.list_expressions-groups.ensures.view, length-append v.entries (map Expression c.in-Aggregate.groups.now), length-map c.in-Aggregate.groups.now Expression);
-    }
+    omega (arith, h, ap (λ x. length x.entries) c.put-groups.ensures.view, length-append v.entries (map Expression c.in-Aggregate.groups.now), length-map c.in-Aggregate.groups.now Expression)
 
 pub returns-in-Table : goal.returns-in-Table
 returns-in-Table c =
@@ -46,9 +42,9 @@ returns-in-Projection c =
     let l = c.in-Projection.list in
     let k = c.args.number.0 in
     let p = and_parts (below k i.0) (all_below (length v.trees) (numbers_of l.now)) (subst (λ n. present_in v k n ≡ true) c.in-Projection.is c.requires.present) in
-    let x = exprs-listed v (view_of c.list_expressions-list.new.terms) c.list_expressions-list.result l.now c.list_expressions-list.ensures p.1 in
+    let x = exprs-listed v (view_of c.put-list.new.terms) c.put-list.result l.now c.put-list.ensures p.1 in
     for-node v _ k _ _ _ c.in-Projection.is
-    (nameless-placed v _ k (Projection i l) (ProjectionNode i c.list_expressions-list.result) _ c.nameless.ensures refl refl c.list_expressions-list.ensures.view (and_from _ _ p.0 x.0) (few-listed v _ _ Expression l.now 64 c.list_expressions-list.ensures (subst (λ n. bounded n ≡ true) c.in-Projection.is c.requires.bounded)) refl (λ fs ts. ap (λ es. projection es (plan_in ts i.0)) x.1))
+    (nameless-placed v _ k (Projection i l) (ProjectionNode i c.put-list.result) _ c.into.ensures refl refl c.put-list.ensures.view (and_from _ _ p.0 x.0) (few-listed v _ _ Expression l.now 64 c.put-list.ensures (subst (λ n. bounded n ≡ true) c.in-Projection.is c.requires.bounded)) refl (λ fs ts. ap (λ es. projection es (plan_in ts i.0)) x.1))
 
 pub returns-in-Sort : goal.returns-in-Sort
 returns-in-Sort c =
@@ -57,15 +53,15 @@ returns-in-Sort c =
     let ks = c.in-Sort.keys in
     let k = c.args.number.0 in
     let p = and_parts (below k i.0) (all_below (length v.trees) (key_numbers ks.now)) (subst (λ n. present_in v k n ≡ true) c.in-Sort.is c.requires.present) in
-    let x = sort-listed v (view_of c.list_keys-keys.new.terms) c.list_keys-keys.result ks.now c.list_keys-keys.ensures p.1 in
+    let x = sort-listed v (view_of c.put-keys.new.terms) c.put-keys.result ks.now c.put-keys.ensures p.1 in
     for-node v _ k _ _ _ c.in-Sort.is
-    (nameless-placed v _ k (Sort i ks) (SortNode i c.list_keys-keys.result) _ c.nameless-in-Sort.ensures refl refl c.list_keys-keys.ensures.view (and_from _ _ p.0 x.0) (few-listed v _ _ key_entry ks.now 16 c.list_keys-keys.ensures (subst (λ n. bounded n ≡ true) c.in-Sort.is c.requires.bounded)) refl (λ fs ts. ap (λ es. sort es (plan_in ts i.0)) x.1))
+    (nameless-placed v _ k (Sort i ks) (SortNode i c.put-keys.result) _ c.into-in-Sort.ensures refl refl c.put-keys.ensures.view (and_from _ _ p.0 x.0) (few-listed v _ _ key_entry ks.now 16 c.put-keys.ensures (subst (λ n. bounded n ≡ true) c.in-Sort.is c.requires.bounded)) refl (λ fs ts. ap (λ es. sort es (plan_in ts i.0)) x.1))
 
 pub returns-in-Aggregate : goal.returns-in-Aggregate
 returns-in-Aggregate c =
     let v = view_of c.args.terms.now in
-    let w = view_of c.list_expressions-groups.new.terms in
-    let u = view_of c.list_expressions-totals.new.terms in
+    let w = view_of c.put-groups.new.terms in
+    let u = view_of c.put-totals.new.terms in
     let i = c.in-Aggregate.input in
     let gs = c.in-Aggregate.groups in
     let us = c.in-Aggregate.totals in
@@ -73,10 +69,10 @@ returns-in-Aggregate c =
     let p = and_parts (below k i.0) (all_below (length v.trees) (numbers_of gs.now) && all_below (length v.trees) (numbers_of us.now)) (subst (λ n. present_in v k n ≡ true) c.in-Aggregate.is c.requires.present) in
     let q = and_parts (all_below (length v.trees) (numbers_of gs.now)) (all_below (length v.trees) (numbers_of us.now)) p.1 in
     let b = and_parts (leb (length gs.now) 16) (leb (length us.now) 16) (subst (λ n. bounded n ≡ true) c.in-Aggregate.is c.requires.bounded) in
-    let x = first-kept v w u gs.now us.now c.list_expressions-groups.result c.list_expressions-totals.result c.list_expressions-groups.ensures c.list_expressions-totals.ensures q.0 q.1 in
+    let x = first-kept v w u gs.now us.now c.put-groups.result c.put-totals.result c.put-groups.ensures c.put-totals.ensures q.0 q.1 in
     for-node v _ k _ _ _ c.in-Aggregate.is
-    (nameless-placed v u k (Aggregate i gs us) (AggregateNode i c.list_expressions-groups.result c.list_expressions-totals.result) _ c.nameless-in-Aggregate.ensures refl refl
-    (twice-listed v w u _ _ _ _ c.list_expressions-groups.ensures c.list_expressions-totals.ensures) (and_from _ _ p.0 (and_from _ _ x.0 x.2)) (and_from _ _ (few-listed v _ _ Expression gs.now 16 c.list_expressions-groups.ensures b.0) (few-listed w _ _ Expression us.now 16 c.list_expressions-totals.ensures b.1)) refl (λ fs ts. ap₂ (λ a b. aggregate a b (plan_in ts i.0)) x.1 x.3))
+    (nameless-placed v u k (Aggregate i gs us) (AggregateNode i c.put-groups.result c.put-totals.result) _ c.into-in-Aggregate.ensures refl refl
+    (twice-listed v w u _ _ _ _ c.put-groups.ensures c.put-totals.ensures) (and_from _ _ p.0 (and_from _ _ x.0 x.2)) (and_from _ _ (few-listed v _ _ Expression gs.now 16 c.put-groups.ensures b.0) (few-listed w _ _ Expression us.now 16 c.put-totals.ensures b.1)) refl (λ fs ts. ap₂ (λ a b. aggregate a b (plan_in ts i.0)) x.1 x.3))
 
 pub returns-in-Join : goal.returns-in-Join
 returns-in-Join c =
@@ -87,9 +83,9 @@ returns-in-Join c =
     let k = c.args.number.0 in
     let p = and_parts (below k l.0 && below k r.0) (all_below (length v.trees) (numbers_of cs.now)) (subst (λ n. present_in v k n ≡ true) c.in-Join.is c.requires.present) in
     let q = and_parts (below k l.0) (below k r.0) p.0 in
-    let x = exprs-listed v (view_of c.list_expressions-on.new.terms) c.list_expressions-on.result cs.now c.list_expressions-on.ensures p.1 in
+    let x = exprs-listed v (view_of c.put-on.new.terms) c.put-on.result cs.now c.put-on.ensures p.1 in
     for-node v _ k _ _ _ c.in-Join.is
-    (nameless-placed v _ k (Join c.in-Join.kind l r cs) (JoinNode c.in-Join.kind l r c.list_expressions-on.result) _ c.nameless-in-Join.ensures refl refl c.list_expressions-on.ensures.view (and_from _ _ q.0 (and_from _ _ q.1 x.0)) (few-listed v _ _ Expression cs.now 16 c.list_expressions-on.ensures (subst (λ n. bounded n ≡ true) c.in-Join.is c.requires.bounded)) refl
+    (nameless-placed v _ k (Join c.in-Join.kind l r cs) (JoinNode c.in-Join.kind l r c.put-on.result) _ c.into-in-Join.ensures refl refl c.put-on.ensures.view (and_from _ _ q.0 (and_from _ _ q.1 x.0)) (few-listed v _ _ Expression cs.now 16 c.put-on.ensures (subst (λ n. bounded n ≡ true) c.in-Join.is c.requires.bounded)) refl
     (λ fs ts. ap (λ es. join c.in-Join.kind es (plan_in ts l.0) (plan_in ts r.0)) x.1))
 
 pub returns-in-Union : goal.returns-in-Union
@@ -98,9 +94,9 @@ returns-in-Union c =
     let is = c.in-Union.inputs in
     let k = c.args.number.0 in
     let p = subst (λ n. present_in v k n ≡ true) c.in-Union.is c.requires.present in
-    let x = inputs-listed v (view_of c.list_inputs-inputs.new.terms) c.list_inputs-inputs.result is.now c.list_inputs-inputs.ensures in
+    let x = inputs-listed v (view_of c.put-inputs.new.terms) c.put-inputs.result is.now c.put-inputs.ensures in
     for-node v _ k _ _ _ c.in-Union.is
-    (nameless-placed v _ k (Union is) (UnionNode c.list_inputs-inputs.result) _ c.nameless-in-Union.ensures refl refl c.list_inputs-inputs.ensures.view (and_from _ _ c.list_inputs-inputs.ensures.run (ap (all_below k) x ∙ p)) (ap (between 1 8) (c.list_inputs-inputs.ensures.count ∙ length-map is.now Input) ∙ subst (λ n. bounded n ≡ true) c.in-Union.is c.requires.bounded) x
+    (nameless-placed v _ k (Union is) (UnionNode c.put-inputs.result) _ c.into-in-Union.ensures refl refl c.put-inputs.ensures.view (and_from _ _ c.put-inputs.ensures.run (ap (all_below k) x ∙ p)) (ap (between 1 8) (c.put-inputs.ensures.count ∙ length-map is.now Input) ∙ subst (λ n. bounded n ≡ true) c.in-Union.is c.requires.bounded) x
     (λ fs ts. ap (λ ns. union_of (plans_in ts ns)) x))
 
 pub returns-in-SubqueryAlias : goal.returns-in-SubqueryAlias

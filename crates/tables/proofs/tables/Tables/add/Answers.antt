@@ -1,6 +1,7 @@
-use Rattle.std.proofs.Common.{length, sym, refl, ap, ◌∙◌, arith, lit<}
-use Rattle.table.specs.Contents.{contents}
+use Rattle.std.proofs.Common.{◌≡◌, length, sym, refl, ap, ◌∙◌, arith, lit<, length-append}
+use Rattle.std.proofs.lemmas.List.{length-map, length_push}
 use Rattle.plan.specs.Fields.{every}
+use Rattle.terms.specs.Spans.{stored_field}
 use Rattle.terms.specs.Views.{view_of}
 use Rattle.draft.specs.Drafts.{draft_bytes}
 use Rattle.tables.specs.Holding.{view_in, model_of}
@@ -24,13 +25,12 @@ pub store-requires : goal.store-requires
 store-requires c =
     let t = c.args.self.now in
     let n = c.args.node in
-    let ds = contents c.draft_shown.new.out in
+    let ds = c.draft_shown.new.out in
     let w = view_of c.place-placed.new.terms in
     let s = c.as_slice.ensures in
     let f = fits-parts (model_of t).used (outlay_for t n) c.requires.room in
     record {
-      owner = c.place-placed.ensures.owner_inside;
-      given = c.place-placed.ensures.given_inside;
+      lent = record { owner = c.place-placed.ensures.owner_inside; given = c.place-placed.ensures.given_inside };
       inside = ap (every _) s ∙ draft-kept t n _ ds c.draft_shown.ensures w c.place-placed.result c.place-placed.ensures;
       fields = omega (arith, ap length s, draft-long t n _ ds c.draft_shown.ensures w c.place-placed.result c.place-placed.ensures, f.2);
       bytes = omega (arith, ap (draft_bytes w) s, bytes_left t n _ ds c.draft_shown.ensures w c.place-placed.result c.place-placed.ensures c.requires.room);
@@ -45,19 +45,28 @@ pub invariant_of-self : goal.invariant_of-self
 invariant_of-self c =
     let t = c.args.self.now in
     let n = c.args.node in
-    let ds = contents c.draft_shown.new.out in
+    let ds = c.draft_shown.new.out in
     let w = view_of c.place-placed.new.terms in
     let x = c.place-placed.result in
-    let st = stored-for w (view_of c.store.new.terms) _ _ _ ds (contents t.fields) (contents c.store.new.fields) c.as_slice.ensures c.store.ensures in
-    let k = added-facts t n c.len.result ds c.draft_shown.ensures w x c.place-placed.ensures (c.len.ensures.value ∙ sym (counted t)) (view_of c.store.new.terms) (contents c.store.new.fields) st c.requires.limited c.requires.named _ refl _ _ _ c.len-first.ensures.value c.len-count.ensures.value c.tree_size-size.ensures (contents c.push.new.self) c.push.ensures in
-    record { stored = k.are-stored; sound = k.are-sound; fielded = k.are-fielded; sizes = k.have-sizes }
+    let st = stored-for w (view_of c.store.new.terms) _ _ _ ds t.fields c.store.new.fields c.as_slice.ensures c.store.ensures in
+    let k = added-facts t n c.len.result ds c.draft_shown.ensures w x c.place-placed.ensures (c.len.ensures.value ∙ sym (counted t)) (view_of c.store.new.terms) c.store.new.fields st c.requires.limited c.requires.named _ refl _ _ _ c.len-first.ensures.value c.len-count.ensures.value c.tree_size-size.ensures c.push.new.self c.push.ensures in
+    let f = fits-parts (model_of t).used (outlay_for t n) c.requires.room in
+    let new : length st.new ≡ length ds = sym (length-map st.new (stored_field (view_of c.store.new.terms).bytes)) ∙ ap length st.fields ∙ length-map ds _ in
+    record {
+      few_fields = omega (arith, ap length st.grew, length-append t.fields st.new, new, draft-long t n _ ds c.draft_shown.ensures w x c.place-placed.ensures, f.2);
+      few_plans = omega (arith, ap length c.push.ensures ∙ length_push t.plans _, f.0, counted t);
+      stored = k.are-stored;
+      sound = k.are-sound;
+      fielded = k.are-fielded;
+      sizes = k.have-sizes;
+    }
 
 pub returns : goal.returns
 returns c =
     let t = c.args.self.now in
     let n = c.args.node in
-    let ds = contents c.draft_shown.new.out in
+    let ds = c.draft_shown.new.out in
     let w = view_of c.place-placed.new.terms in
     let x = c.place-placed.result in
-    let st = stored-for w (view_of c.store.new.terms) _ _ _ ds (contents t.fields) (contents c.store.new.fields) c.as_slice.ensures c.store.ensures in
-    added t n c.len.result ds c.draft_shown.ensures w x c.place-placed.ensures (c.len.ensures.value ∙ sym (counted t)) (view_of c.store.new.terms) (contents c.store.new.fields) st c.requires.limited c.requires.named _ refl _ _ _ c.len-first.ensures.value c.len-count.ensures.value c.tree_size-size.ensures (contents c.push.new.self) c.push.ensures
+    let st = stored-for w (view_of c.store.new.terms) _ _ _ ds t.fields c.store.new.fields c.as_slice.ensures c.store.ensures in
+    added t n c.len.result ds c.draft_shown.ensures w x c.place-placed.ensures (c.len.ensures.value ∙ sym (counted t)) (view_of c.store.new.terms) c.store.new.fields st c.requires.limited c.requires.named _ refl _ _ _ c.len-first.ensures.value c.len-count.ensures.value c.tree_size-size.ensures c.push.new.self c.push.ensures

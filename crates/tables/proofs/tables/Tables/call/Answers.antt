@@ -1,17 +1,11 @@
 use Rattle.std.proofs.Common.{refl}
-use Rattle.table.specs.Contents.{contents}
 use Rattle.plan.specs.Calls.Call.{make_call}
 use Rattle.terms.specs.Views.{view_of, numbers_of}
-use Rattle.tables.specs.Holding.{view_in}
-use Rattle.tables.proofs.Answers.{expr-answers, facts-answered}
-use Rattle.tables.proofs.Held.{facts-in}
+use Rattle.tables.proofs.Answers.{expr-answers, still-held}
 use Rattle.tables.proofs.tables.Tables.call.Goals as goal
 
 pub invariant_of-self : goal.invariant_of-self
-invariant_of-self c =
-    let t = c.args.self.now in
-    let k = facts-answered (view_in t) (view_of c.call.new.self) (make_call c.args.function (numbers_of c.args.arguments.now)) c.call.result (contents t.fields) (contents t.plans) c.call.ensures (facts-in t) in
-    record { stored = k.are-stored; sound = k.are-sound; fielded = k.are-fielded; sizes = k.have-sizes }
+invariant_of-self c = still-held c.args.self.now (view_of c.call.new.self) (make_call c.args.function (numbers_of c.args.arguments.now)) c.call.result c.call.ensures
 
 pub returns : goal.returns
 returns c =

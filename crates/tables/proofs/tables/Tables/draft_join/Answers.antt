@@ -1,28 +1,25 @@
-use Rattle.std.proofs.Common.{[], ◌++◌, map, length, ap, ◌∙◌, arith}
+use Rattle.std.proofs.Common.{[], ◌++◌, map, length, ap, ◌∙◌, arith, rules}
 use Rattle.std.proofs.lemmas.List.{length-map}
 use Rattle.draft.specs.Drafts.{as_stored}
-use Rattle.tables.specs.Holding.{view_in, fields_at}
-use Rattle.tables.proofs.Draftings.{stored-draft, sides-draft, kind-draft, shown-both, shown-left, shown-right}
+use Rattle.tables.specs.Holding.{view_in}
+use Rattle.tables.proofs.Draftings.{stored-draft, sides-draft}
 use Rattle.tables.proofs.tables.Tables.draft_join.Goals as goal
 
-pub push_stored-requires-in-true-true : goal.push_stored-requires-in-true-true
-push_stored-requires-in-true-true c =
-    omega (arith, ap length (c.push_stored.ensures ∙ ap (λ l. l ++ map as_stored c.fields_of.result.now) c.requires.empty), length-map c.fields_of.result.now as_stored, c.fields_of.ensures.few, c.fields_of-in-true-true.ensures.few)
+pub push_stored-requires-in_default-2 : goal.push_stored-requires-in_default-2
+push_stored-requires-in_default-2 c =
+    omega (arith, ap length (c.push_stored-in_default.ensures ∙ ap (λ l. l ++ map as_stored c.fields_of-in_default.result.now) c.requires.empty), length-map c.fields_of-in_default.result.now as_stored, c.fields_of-in_default.ensures.few, c.fields_of-in_default-2.ensures.few)
 
-pub returns-in-true-true : goal.returns-in-true-true
-returns-in-true-true c =
-    let t = c.args.self.now in
-    kind-draft (view_in t) [] [] c.args.kind (fields_at t c.args.left.0) (fields_at t c.args.right.0) _ _ (shown-both c.args.kind _ _ c.in-true-true.ensures c.in-true-true.ensures')
-    (sides-draft (view_in t) [] [] _ _ _ _ _ _ _ c.fields_of.ensures.value c.fields_of.ensures.stored c.fields_of-in-true-true.ensures.value c.fields_of-in-true-true.ensures.stored c.requires.empty c.push_stored.ensures c.push_stored-in-true-true.ensures)
+pub returns-in-LeftSemi : goal.returns-in-LeftSemi
+returns-in-LeftSemi c =
+    let d = stored-draft (view_in c.args.self.now) [] [] _ _ c.fields_of.ensures.value c.fields_of.ensures.stored _ _ c.requires.empty c.push_stored.ensures in
+    search (rules, d)
 
-pub returns-in-true-false : goal.returns-in-true-false
-returns-in-true-false c =
-    let t = c.args.self.now in
-    kind-draft (view_in t) [] [] c.args.kind (fields_at t c.args.left.0) (fields_at t c.args.right.0) _ _ (shown-left c.args.kind _ _ c.in-true-false.ensures c.in-true-false.ensures')
-    (stored-draft (view_in t) [] [] _ _ c.fields_of-in-true-false.ensures.value c.fields_of-in-true-false.ensures.stored _ _ c.requires.empty c.push_stored-in-true-false.ensures)
+pub returns-in-RightSemi : goal.returns-in-RightSemi
+returns-in-RightSemi c =
+    let d = stored-draft (view_in c.args.self.now) [] [] _ _ c.fields_of-in-RightSemi.ensures.value c.fields_of-in-RightSemi.ensures.stored _ _ c.requires.empty c.push_stored-in-RightSemi.ensures in
+    search (rules, d)
 
-pub returns-in-false-true : goal.returns-in-false-true
-returns-in-false-true c =
-    let t = c.args.self.now in
-    kind-draft (view_in t) [] [] c.args.kind (fields_at t c.args.left.0) (fields_at t c.args.right.0) _ _ (shown-right c.args.kind _ _ c.in-false-true.ensures c.in-false-true.ensures')
-    (stored-draft (view_in t) [] [] _ _ c.fields_of-in-false-true.ensures.value c.fields_of-in-false-true.ensures.stored _ _ c.requires.empty c.push_stored-in-false-true.ensures)
+pub returns-in_default : goal.returns-in_default
+returns-in_default c =
+    let d = sides-draft (view_in c.args.self.now) [] [] _ _ _ _ _ _ _ c.fields_of-in_default.ensures.value c.fields_of-in_default.ensures.stored c.fields_of-in_default-2.ensures.value c.fields_of-in_default-2.ensures.stored c.requires.empty c.push_stored-in_default.ensures c.push_stored-in_default-2.ensures in
+    search (rules, d)

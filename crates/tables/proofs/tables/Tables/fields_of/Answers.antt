@@ -1,6 +1,5 @@
 use Rattle.std.proofs.Common.{map, length, ap, ◌∙◌, arith, lit<}
 use Rattle.std.proofs.lemmas.Bool.{leb-true}
-use Rattle.table.specs.Contents.{contents}
 use Rattle.table.proofs.Parts.{length_part}
 use Rattle.plan.specs.Fields.{every}
 use Rattle.terms.specs.Spans.{stored_field, stored_in}
@@ -18,6 +17,6 @@ returns c =
     let e = c.part.ensures in
     record {
       value = ap (map (stored_field (view_in t).bytes)) e ∙ c.record_of.ensures.fields;
-      stored = ap (every (stored_in (view_in t).bytes)) e ∙ every-part (stored_in (view_in t).bytes) (contents t.fields) r.first r.count t.stored;
-      few = omega (arith, ap length e, length_part (contents t.fields) r.first r.count (leb-true _ _ c.record_of.ensures.run), c.record_of.ensures.few);
+      stored = ap (every (stored_in (view_in t).bytes)) e ∙ every-part (stored_in (view_in t).bytes) t.fields r.first r.count t.stored;
+      few = omega (arith, ap length e, length_part t.fields r.first r.count (leb-true _ _ c.record_of.ensures.run), c.record_of.ensures.few);
     }

@@ -14,7 +14,7 @@ pub is_lawful-requires : goal.is_lawful-requires
 is_lawful-requires c =
     let v = view_in c.args.self.now in
     let d = sides-draft v [] [] _ _ _ _ _ _ _ c.fields_of.ensures.value c.fields_of.ensures.stored c.fields_of-2.ensures.value c.fields_of-2.ensures.stored c.new-draft.ensures c.push_stored.ensures c.push_stored-2.ensures in
-    record { inside = ap (every (draft_in v [] [])) c.as_slice.ensures ∙ d.inside; owner = omega arith; given = omega arith }
+    ap (every (draft_in v [] [])) c.as_slice.ensures ∙ d.inside
 
 pub returns : goal.returns
 returns c =

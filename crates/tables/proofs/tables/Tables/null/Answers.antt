@@ -1,18 +1,12 @@
 use Rattle.std.proofs.Common.{refl}
-use Rattle.table.specs.Contents.{contents}
 use Rattle.plan.specs.Calls.Call.{make_literal}
 use Rattle.plan.specs.Terms.Literal.{null as null_literal}
 use Rattle.terms.specs.Views.{view_of}
-use Rattle.tables.specs.Holding.{view_in}
-use Rattle.tables.proofs.Answers.{expr-answers, facts-answered}
-use Rattle.tables.proofs.Held.{facts-in}
+use Rattle.tables.proofs.Answers.{expr-answers, still-held}
 use Rattle.tables.proofs.tables.Tables.null.Goals as goal
 
 pub invariant_of-self : goal.invariant_of-self
-invariant_of-self c =
-    let t = c.args.self.now in
-    let k = facts-answered (view_in t) (view_of c.null.new.self) (make_literal null_literal) c.null.result (contents t.fields) (contents t.plans) c.null.ensures (facts-in t) in
-    record { stored = k.are-stored; sound = k.are-sound; fielded = k.are-fielded; sizes = k.have-sizes }
+invariant_of-self c = still-held c.args.self.now (view_of c.null.new.self) (make_literal null_literal) c.null.result c.null.ensures
 
 pub returns : goal.returns
 returns c =

@@ -2,7 +2,7 @@ use Rattle.std.proofs.Common.{length, refl, ap, ◌∙◌, arith}
 use Rattle.std.proofs.lemmas.Bool.{lt-ltb}
 use Rattle.plan.specs.Names.{good_name}
 use Rattle.plan.specs.Plans.Plan.{subquery_alias}
-use Rattle.terms.specs.Spans.{word}
+use Rattle.names.specs.Spans.{word}
 use Rattle.terms.proofs.Bounds.{name-short}
 use Rattle.tables.specs.Holding.{view_in, tree_in}
 use Rattle.tables.specs.declared.node.NewNode.TheVariants.{SubqueryAlias}

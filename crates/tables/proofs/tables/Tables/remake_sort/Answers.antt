@@ -2,15 +2,15 @@ use Rattle.std.proofs.Common.{map, length, refl, ap, ◌∙◌, arith}
 use Rattle.std.proofs.lemmas.Bool.{and_parts, and_from, leb-true, lt-ltb}
 use Rattle.table.proofs.Parts.{length_part}
 use Rattle.plan.specs.Plans.Plan.{sort}
-use Rattle.tables.specs.Copying.{key_of}
+use Rattle.tables.specs.Keys.{key_of}
 use Rattle.tables.specs.Holding.{view_in, tree_in}
 use Rattle.tables.specs.Stored.{run_in}
 use Rattle.tables.specs.declared.node.NewNode.TheVariants.{Sort}
 use Rattle.tables.proofs.Remaking.{keys-present, keys-copied, copy-few, made-anew}
 use Rattle.tables.proofs.tables.Tables.remake_sort.Goals as goal
 
-pub copy_keys-own-requires : goal.copy_keys-own-requires
-copy_keys-own-requires c =
+pub copied-own-requires : goal.copied-own-requires
+copied-own-requires c =
     let v = view_in c.args.self.now in
     let l = c.args.keys in
     omega (arith, ap length c.entries.ensures, length_part v.entries l.first l.count (leb-true _ _ (and_parts (run_in v.entries l) _ c.requires.list).0), leb-true _ _ c.requires.few)
@@ -19,7 +19,7 @@ pub make-requires : goal.make-requires
 make-requires c =
     let v = view_in c.args.self.now in
     let l = c.args.keys in
-    let e = c.as_slice.ensures ∙ c.copy_keys-own.ensures ∙ ap (map key_of) c.entries.ensures in
+    let e = c.as_slice.ensures ∙ c.copied-own.ensures ∙ ap (map key_of) c.entries.ensures in
     record {
       present = and_from _ _ (lt-ltb _ _ c.requires.input) (keys-present v l _ e c.requires.list);
       bounded = copy-few v l key_of _ e 16 (and_parts (run_in v.entries l) _ c.requires.list).0 c.requires.few;
@@ -29,5 +29,5 @@ make-requires c =
 pub returns : goal.returns
 returns c =
     let t = c.args.self.now in
-    let e = c.as_slice.ensures ∙ c.copy_keys-own.ensures ∙ ap (map key_of) c.entries.ensures in
+    let e = c.as_slice.ensures ∙ c.copied-own.ensures ∙ ap (map key_of) c.entries.ensures in
     made-anew t (Sort c.args.input c.as_slice.result) _ _ tt (ap (λ l. sort l (tree_in t c.args.input.0)) (keys-copied (view_in t) c.args.keys _ e)) refl c.make.result _ c.make.ensures

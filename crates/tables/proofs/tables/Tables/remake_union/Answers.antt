@@ -1,30 +1,30 @@
 use Rattle.std.proofs.Common.{◌≡◌, ℕ, true, leb, List, map, length, set, refl, ap, ◌∙◌, arith, lit<, length-set}
 use lib.Seq.{map-set}
 use Rattle.std.proofs.lemmas.Bool.{and_parts, leb-true}
-use Rattle.table.specs.Contents.{contents, part}
+use Rattle.table.specs.Contents.{part}
 use Rattle.table.proofs.Parts.{length_part}
 use Rattle.plan.specs.Calls.{all_below, between, union_of}
 use Rattle.plan.specs.Model.{plans_in}
 use Rattle.terms.specs.Views.{View}
 use Rattle.terms.specs.declared.node.PlanId.{PlanId}
-use Rattle.tables.specs.Copying.{input_of}
+use Rattle.terms.specs.Entries.{input_of}
 use Rattle.tables.specs.Holding.{view_in, trees_in, plan_count}
 use Rattle.tables.specs.Making.{input_numbers}
 use Rattle.tables.specs.Stored.{run_in, run_numbers}
 use Rattle.tables.specs.declared.node.NewNode.TheVariants.{Union}
-use Rattle.tables.specs.declared.node.Run.{Run}
+use Rattle.terms.specs.declared.node.Run.{Run}
 use Rattle.tables.proofs.Remaking.{copy-long, inputs-copied, below_set, made-anew}
 use Rattle.tables.proofs.tables.Tables.remake_union.Goals as goal
 
-pub copy_inputs-own-requires : goal.copy_inputs-own-requires
-copy_inputs-own-requires c =
+pub copied-own-requires : goal.copied-own-requires
+copied-own-requires c =
     let l = c.args.inputs in
     omega (arith, ap length c.entries.ensures, length_part (view_in c.args.self.now).entries l.first l.count (leb-true _ _ c.requires.run), leb-true _ _ (and_parts (leb 1 l.count) (leb l.count 8) c.requires.few).1)
 
 pub set-requires : goal.set-requires
 set-requires c =
-    let e = c.copy_inputs-own.ensures ∙ ap (map input_of) c.entries.ensures in
-    (lit< tt, omega (arith, c.requires.position, copy-long (view_in c.args.self.now) c.args.inputs input_of (contents c.copy_inputs-own.result) e c.requires.run))
+    let e = c.copied-own.ensures ∙ ap (map input_of) c.entries.ensures in
+    (lit< tt, omega (arith, c.requires.position, copy-long (view_in c.args.self.now) c.args.inputs input_of c.copied-own.result e c.requires.run))
 
 -- the numbers that are lent, and how many there are
 lent : (v : View) (l : Run) (xs ys : List PlanId) (k : ℕ) (i : PlanId) → xs ≡ map input_of (part v.entries l.first l.count) → run_in v.entries l ≡ true → ys ≡ set xs k i
@@ -36,7 +36,7 @@ pub make-requires : goal.make-requires
 make-requires c =
     let t = c.args.self.now in
     let l = c.args.inputs in
-    let x = lent (view_in t) l (contents c.copy_inputs-own.result) _ c.args.position c.args.input (c.copy_inputs-own.ensures ∙ ap (map input_of) c.entries.ensures) c.requires.run (c.as_slice.ensures ∙ c.set.ensures) in
+    let x = lent (view_in t) l c.copied-own.result _ c.args.position c.args.input (c.copied-own.ensures ∙ ap (map input_of) c.entries.ensures) c.requires.run (c.as_slice.ensures ∙ c.set.ensures) in
     record {
       present = ap (all_below (plan_count t)) x.0 ∙ below_set (plan_count t) (run_numbers (view_in t).entries l) c.args.position c.args.input.0 c.requires.input c.requires.present;
       bounded = ap (between 1 8) x.1 ∙ c.requires.few;
@@ -47,5 +47,5 @@ pub returns : goal.returns
 returns c =
     let t = c.args.self.now in
     let l = c.args.inputs in
-    let x = lent (view_in t) l (contents c.copy_inputs-own.result) _ c.args.position c.args.input (c.copy_inputs-own.ensures ∙ ap (map input_of) c.entries.ensures) c.requires.run (c.as_slice.ensures ∙ c.set.ensures) in
+    let x = lent (view_in t) l c.copied-own.result _ c.args.position c.args.input (c.copied-own.ensures ∙ ap (map input_of) c.entries.ensures) c.requires.run (c.as_slice.ensures ∙ c.set.ensures) in
     made-anew t (Union c.as_slice.result) _ _ tt (ap (λ ns. union_of (plans_in (trees_in t) ns)) x.0) x.0 c.make.result _ c.make.ensures

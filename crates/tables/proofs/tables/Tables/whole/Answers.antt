@@ -2,24 +2,19 @@ use Rattle.std.proofs.Common.{◌≡◌, ℤ, Result, refl, subst, w64}
 use Rattle.std.proofs.lemmas.Int.{to_z-of_z}
 use Rattle.plan.specs.declared.fault.Fault.{Fault}
 use Rattle.terms.specs.declared.node.ExprId.{ExprId}
-use Rattle.table.specs.Contents.{contents}
 use Rattle.plan.specs.Calls.Call.{make_literal}
 use Rattle.plan.specs.Terms.Literal.{whole as whole_literal}
 use Rattle.terms.specs.Building.{Answered}
 use Rattle.terms.specs.Views.{View, view_of}
 use Rattle.tables.specs.Holding.{view_in}
-use Rattle.tables.proofs.Answers.{expr-answers, facts-answered}
-use Rattle.tables.proofs.Held.{facts-in}
+use Rattle.tables.proofs.Answers.{expr-answers, still-held}
 use Rattle.tables.proofs.tables.Tables.whole.Goals as goal
 
 said : (v w : View) (r : Result ExprId Fault) (n m : ℤ) → m ≡ n → Answered v (make_literal (whole_literal m)) r w → Answered v (make_literal (whole_literal n)) r w
 said v w r n m e a = subst (λ x. Answered v (make_literal (whole_literal x)) r w) e a
 
 pub invariant_of-self : goal.invariant_of-self
-invariant_of-self c =
-    let t = c.args.self.now in
-    let k = facts-answered (view_in t) (view_of c.whole.new.self) (make_literal (whole_literal c.args.n)) c.whole.result (contents t.fields) (contents t.plans) (said (view_in c.args.self.now) (view_of c.whole.new.self) c.whole.result c.args.n _ (to_z-of_z w64 c.args.n c.ranges.n) c.whole.ensures) (facts-in t) in
-    record { stored = k.are-stored; sound = k.are-sound; fielded = k.are-fielded; sizes = k.have-sizes }
+invariant_of-self c = still-held c.args.self.now (view_of c.whole.new.self) (make_literal (whole_literal c.args.n)) c.whole.result (said (view_in c.args.self.now) (view_of c.whole.new.self) c.whole.result c.args.n _ (to_z-of_z w64 c.args.n c.ranges.n) c.whole.ensures)
 
 pub returns : goal.returns
 returns c =

@@ -1,7 +1,0 @@
-use Rattle.std.proofs.Common.{◌≡◌, map, take}
-use Rattle.table.specs.Contents.{contents}
-use Rattle.tables.specs.Copying.{key_of}
-use Rattle.tables.proofs.copying.copy_keys.Given as goal
-
-abbrev pub invariant-loop-entry : goal.invariant-loop-entry
-invariant-loop-entry l = contents l.out ≡ map key_of (take l.entry-index l.entries)

@@ -1,9 +1,0 @@
-use Rattle.std.proofs.Common.{ltb, length, sym, ap, ◌∙◌}
-use Rattle.std.proofs.lemmas.List.{length-map}
-use Rattle.terms.specs.Spans.{stored_field}
-use Rattle.tables.specs.Holding.{view_in}
-use Rattle.tables.proofs.tables.Tables.has_field.Goals as goal
-
-pub returns : goal.returns
-returns c =
-    ap (ltb c.args.i) (sym (length-map c.fields_of.result.now (stored_field (view_in c.args.self.now).bytes)) ∙ ap length c.fields_of.ensures.value)

@@ -1,0 +1,31 @@
+//! How the list table holds Sort keys.
+ghost use Rattle.std.specs.Prelude.{refl};
+ghost use Rattle.tables.specs.Keys.{key_entry, key_of};
+
+use crate::node::SortKey;
+use plan::code::Direction;
+use terms::listed::Listed;
+use terms::node::{Entry, ExprId};
+
+impl Listed for SortKey {
+    ghost entry = { key_entry };
+
+    ghost read = { key_of };
+
+    ghost kept = { λ k. refl };
+
+    fn entry(self) -> Entry {
+        Entry::Key(self.by, self.direction)
+    }
+
+    fn read(held: Entry) -> SortKey {
+        let direction = match held {
+            Entry::Key(_, direction) => direction,
+            _ => Direction::AscendingNullsFirst,
+        };
+        SortKey {
+            by: ExprId::read(held),
+            direction,
+        }
+    }
+}
