@@ -1,3 +1,4 @@
 pub mod NodeAnswers
 pub mod WiderFacts
 pub mod SortFacts
+pub mod Searches

@@ -13,7 +13,6 @@ ghost use Rattle.std.specs.Prelude.{◌≡◌, true, not, ◌&&◌, length, nat_
 use names::good_name;
 use names::parts::{count_names, good_names};
 use plan::fault::{Fault, Question, ask};
-use tables::forming::{filter_node, limit_node};
 use tables::node::NewNode;
 use tables::tables::Tables;
 use terms::node::{ExprId, PlanId};
@@ -33,14 +32,7 @@ fn few_names(names: &[u8]) -> bool
 pub(crate) fn is_count(low: usize, high: usize, count: usize) -> bool
     ensures { result ≡ between low high count }
 {
-    low <= count && count <= high
-}
-
-/// Whether a list has so many expressions.
-pub(crate) fn is_between(low: usize, high: usize, ids: &[ExprId]) -> bool
-    ensures { result ≡ between low high (length (numbers_of ids.now)) }
-{
-    is_count(low, high, ids.len())
+    (low..=high).contains(&count)
 }
 
 /// Whether a node and some expressions stand in the book.
@@ -70,7 +62,7 @@ pub fn projection(tables: &mut Tables, input: PlanId, list: &[ExprId]) -> Result
     ensures { Answers (model_of tables.old) (make_projection input.0 (numbers_of list.now)) (answered_plan result) (model_of tables.new) }
 {
     ask(has_list(tables, input, list), Question::Present)?;
-    ask(is_between(1, 64, list), Question::Bounded)?;
+    ask(is_count(1, 64, list.len()), Question::Bounded)?;
     ask(!tables.any_total(list), Question::Placed)?;
     tables.make(NewNode::Projection { input, list })
 }
@@ -81,7 +73,7 @@ pub fn filter(tables: &mut Tables, input: PlanId, predicate: ExprId) -> Result<P
 {
     ask(has_expr(tables, input, predicate), Question::Present)?;
     ask(!tables.is_total(predicate), Question::Placed)?;
-    tables.make(filter_node(input, predicate))
+    tables.make(NewNode::Filter { input, predicate })
 }
 
 /// A Limit: so many rows are skipped, and then at most so many kept.
@@ -89,7 +81,7 @@ pub fn limit(tables: &mut Tables, input: PlanId, skip: u32, count: u32) -> Resul
     ensures { Answers (model_of tables.old) (make_limit input.0 skip count) (answered_plan result) (model_of tables.new) }
 {
     ask(tables.has(input), Question::Present)?;
-    tables.make(limit_node(input, skip, count))
+    tables.make(NewNode::Limit { input, skip, count })
 }
 
 /// A SubqueryAlias: its name qualifies every field.

@@ -1,20 +1,19 @@
 //! The calls that make an Aggregate, a Join, a Union or a Sort; each has the form of those in `nodes`.
-ghost use Rattle.std.specs.Prelude.{◌≡◌, ◌+◌, ◌<◌, ◌≤◌, true, not, ◌&&◌, map, length, is_some, ◌==◌, nat_le, nat_lt};
+ghost use Rattle.std.specs.Prelude.{◌≡◌, ◌+◌, ◌<◌, ◌≤◌, true, not, ◌&&◌, map, length, is_ok, is_some, IfOk, ◌==◌, nat_le, nat_lt};
 ghost use Rattle.tables.specs.Answering.{answered_plan};
 ghost use Rattle.tables.specs.Holding.{fields_at, model_of, plan_count, trees_in, view_in};
 ghost use Rattle.building.specs.Keys.{key_pairs, sort_key};
 ghost use Rattle.tables.specs.Making.{input_numbers};
 ghost use Rattle.plan.specs.Calls.Call.{make_aggregate, make_join, make_sort, make_union};
-ghost use Rattle.plan.specs.Calls.{Answers, all_below, below, between, direction_in, equal_widths, kind_in};
-ghost use Rattle.plan.specs.Codes.{direction_of, join_kind_of};
+ghost use Rattle.plan.specs.Calls.{Answers, all_below, below, between, equal_widths};
+ghost use Rattle.plan.specs.Codes.{direction_of};
 ghost use Rattle.plan.specs.Fields.{any, every};
 ghost use Rattle.plan.specs.Functions.{is_total};
 ghost use Rattle.plan.specs.Model.{exprs_in, plans_in};
-ghost use Rattle.table.specs.Contents.{contents};
 ghost use Rattle.terms.specs.Views.{numbers_of};
 
 use crate::nodes::is_count;
-use plan::code::{Direction, JoinKind};
+use plan::code::{Direction, JoinKind, UnknownCode};
 use plan::fault::{Fault, Question, ask};
 use table::table::Table;
 use tables::node::{Key, NewNode, SortKey};
@@ -26,51 +25,14 @@ fn all_total(tables: &Tables, ids: &[ExprId]) -> bool
     requires { all_below (length (view_in tables.now).trees) (numbers_of ids.now) ≡ true }
     ensures { result ≡ every (is_total (view_in tables.now).functions) (exprs_in (view_in tables.now).trees (numbers_of ids.now)) }
 {
-    for id in ids {
-        if !tables.is_total(*id) {
-            return false;
-        }
-    }
-    true
+    ids.iter().all(|id| tables.is_total(*id))
 }
 
-/// Whether two lists have at most 16 expressions each, and at least one together.
-fn are_few(groups: &[ExprId], totals: &[ExprId]) -> bool
-    ensures { result ≡ ((nat_le (length (numbers_of groups.now)) 16 && nat_le (length (numbers_of totals.now)) 16) && nat_lt 0 (length (numbers_of groups.now) + length (numbers_of totals.now))) }
-{
-    are_counts(groups.len(), totals.len())
-}
-
-fn are_counts(groups: usize, totals: usize) -> bool
+/// Whether there are at most 16 groups and at most 16 totals, and at least one together.
+fn are_few(groups: usize, totals: usize) -> bool
     ensures { result ≡ ((nat_le groups 16 && nat_le totals 16) && nat_lt 0 (groups + totals)) }
 {
-    if groups > 16 {
-        return false;
-    }
-    if totals > 16 {
-        return false;
-    }
-    groups + totals > 0
-}
-
-/// The kind of a number, and the first where there is none.
-fn kind_given(n: u8) -> JoinKind
-    ensures { result ≡ kind_in (join_kind_of n) }
-{
-    JoinKind::from_number(n).unwrap_or(JoinKind::Inner)
-}
-
-/// Whether a number is a kind's, and a list has at most 16 expressions.
-fn is_joined(kind: u8, on: &[ExprId]) -> bool
-    ensures { result ≡ (is_some (join_kind_of kind) && nat_le (length (numbers_of on.now)) 16) }
-{
-    is_joined_by(kind, on.len())
-}
-
-fn is_joined_by(kind: u8, count: usize) -> bool
-    ensures { result ≡ (is_some (join_kind_of kind) && nat_le count 16) }
-{
-    JoinKind::from_number(kind).is_some() && count <= 16
+    groups <= 16 && totals <= 16 && groups + totals > 0
 }
 
 /// Whether a node and two lists of expressions stand in the book.
@@ -99,7 +61,7 @@ pub fn aggregate<'x>(
     ensures { Answers (model_of tables.old) (make_aggregate input.0 (numbers_of groups.now) (numbers_of totals.now)) (answered_plan result) (model_of tables.new) }
 {
     ask(has_lists(tables, input, groups, totals), Question::Present)?;
-    ask(are_few(groups, totals), Question::Bounded)?;
+    ask(are_few(groups.len(), totals.len()), Question::Bounded)?;
     ask(are_placed(tables, groups, totals), Question::Placed)?;
     tables.make(NewNode::Aggregate {
         input,
@@ -116,6 +78,7 @@ fn has_sides(tables: &Tables, left: PlanId, right: PlanId, on: &[ExprId]) -> boo
 }
 
 /// A Join by the kind of this number, on at most 16 conditions.
+// A number, since outside a book codes and refusals are known by number.
 pub fn join(
     tables: &mut Tables,
     kind: u8,
@@ -126,10 +89,11 @@ pub fn join(
     ensures { Answers (model_of tables.old) (make_join kind left.0 right.0 (numbers_of on.now)) (answered_plan result) (model_of tables.new) }
 {
     ask(has_sides(tables, left, right, on), Question::Present)?;
-    ask(is_joined(kind, on), Question::Bounded)?;
+    let kind = JoinKind::try_from(kind)?;
+    ask(on.len() <= 16, Question::Bounded)?;
     ask(!tables.any_total(on), Question::Placed)?;
     tables.make(NewNode::Join {
-        kind: kind_given(kind),
+        kind,
         left,
         right,
         on,
@@ -140,12 +104,7 @@ pub fn join(
 fn has_inputs(tables: &Tables, inputs: &[PlanId]) -> bool
     ensures { result ≡ all_below (plan_count tables.now) (input_numbers inputs.now) }
 {
-    for p in inputs {
-        if !tables.has(*p) {
-            return false;
-        }
-    }
-    true
+    inputs.iter().all(|p| tables.has(*p))
 }
 
 /// Whether two nodes have as many fields.
@@ -162,12 +121,7 @@ fn same_widths(tables: &Tables, inputs: &[PlanId]) -> bool
     requires { all_below (plan_count tables.now) (input_numbers inputs.now) ≡ true }
     ensures { result ≡ equal_widths (view_in tables.now).functions (plans_in (trees_in tables.now) (input_numbers inputs.now)) }
 {
-    for p in inputs {
-        if !same_width(tables, *p, inputs[0]) {
-            return false;
-        }
-    }
-    true
+    inputs.iter().all(|p| same_width(tables, *p, inputs[0]))
 }
 
 /// Whether there are 1 to 8 nodes, with as many fields each.
@@ -175,10 +129,7 @@ fn are_alike(tables: &Tables, inputs: &[PlanId]) -> bool
     requires { all_below (plan_count tables.now) (input_numbers inputs.now) ≡ true }
     ensures { result ≡ (between 1 8 (length (input_numbers inputs.now)) && equal_widths (view_in tables.now).functions (plans_in (trees_in tables.now) (input_numbers inputs.now))) }
 {
-    if !is_count(1, 8, inputs.len()) {
-        return false;
-    }
-    same_widths(tables, inputs)
+    is_count(1, 8, inputs.len()) && same_widths(tables, inputs)
 }
 
 /// A Union of 1 to 8 inputs of the same width.
@@ -190,76 +141,27 @@ pub fn union(tables: &mut Tables, inputs: &[PlanId]) -> Result<PlanId, Fault>
     tables.make(NewNode::Union { inputs })
 }
 
-/// The direction of a number, and the first where there is none.
-fn direction_given(n: u8) -> Direction
-    ensures { result ≡ direction_in (direction_of n) }
-{
-    Direction::from_number(n).unwrap_or(Direction::AscendingNullsFirst)
-}
-
-fn is_direction(n: u8) -> bool
-    ensures { result ≡ is_some (direction_of n) }
-{
-    Direction::from_number(n).is_some()
-}
-
-/// Whether every key's number is a direction's.
-fn all_directed(keys: &[Key]) -> bool
-    ensures { result ≡ every (λ k. is_some (direction_of k.1)) (key_pairs keys.now) }
-{
-    for key in keys {
-        if !is_direction(key.direction) {
-            return false;
-        }
-    }
-    true
-}
-
-/// Whether there are 1 to 16 keys, each with a direction.
-fn are_keys(keys: &[Key]) -> bool
-    ensures { result ≡ (between 1 16 (length (key_pairs keys.now)) && every (λ k. is_some (direction_of k.1)) (key_pairs keys.now)) }
-{
-    if !is_count(1, 16, keys.len()) {
-        return false;
-    }
-    all_directed(keys)
-}
-
-/// A key with its direction.
-fn sort_key(key: Key) -> SortKey
-    ensures { result ≡ sort_key key }
-{
-    SortKey {
-        by: key.by,
-        direction: direction_given(key.direction),
-    }
-}
-
-/// The keys with their directions.
-fn sort_keys(keys: &[Key]) -> Table<SortKey, 16>
+/// The keys with their directions, if each has one.
+fn sort_keys(keys: &[Key]) -> Result<Table<SortKey, 16>, UnknownCode>
     requires { length keys.now ≤ 16 }
-    ensures { contents result ≡ map sort_key keys.now }
+    ensures known { IfOk result (λ table. table ≡ map sort_key keys.now) }
+    ensures all { is_ok result ≡ every (λ k. is_some (direction_of k.1)) (key_pairs keys.now) }
 {
     let mut out = Table::new(SortKey {
         by: ExprId(0),
         direction: Direction::AscendingNullsFirst,
     });
     for key in keys {
-        out.push(sort_key(*key));
+        out.push(SortKey::try_from(*key)?);
     }
-    out
+    Ok(out)
 }
 
 /// Whether the expressions of some keys stand in the book.
 fn has_keys(tables: &Tables, keys: &[Key]) -> bool
     ensures { result ≡ all_below (length (view_in tables.now).trees) (map (λ k. k.0) (key_pairs keys.now)) }
 {
-    for key in keys {
-        if !tables.holds(key.by) {
-            return false;
-        }
-    }
-    true
+    keys.iter().all(|key| tables.holds(key.by))
 }
 
 /// Whether a node and the expressions of some keys stand in the book.
@@ -274,12 +176,7 @@ fn any_key_total(tables: &Tables, keys: &[Key]) -> bool
     requires { all_below (length (view_in tables.now).trees) (map (λ k. k.0) (key_pairs keys.now)) ≡ true }
     ensures { result ≡ any (is_total (view_in tables.now).functions) (exprs_in (view_in tables.now).trees (map (λ k. k.0) (key_pairs keys.now))) }
 {
-    for key in keys {
-        if tables.is_total(key.by) {
-            return true;
-        }
-    }
-    false
+    keys.iter().any(|key| tables.is_total(key.by))
 }
 
 /// A Sort by 1 to 16 keys.
@@ -287,9 +184,9 @@ pub fn sort(tables: &mut Tables, input: PlanId, keys: &[Key]) -> Result<PlanId, 
     ensures { Answers (model_of tables.old) (make_sort input.0 (key_pairs keys.now)) (answered_plan result) (model_of tables.new) }
 {
     ask(has_sorted(tables, input, keys), Question::Present)?;
-    ask(are_keys(keys), Question::Bounded)?;
+    ask(is_count(1, 16, keys.len()), Question::Bounded)?;
+    let given = sort_keys(keys)?;
     ask(!any_key_total(tables, keys), Question::Placed)?;
-    let given = sort_keys(keys);
     tables.make(NewNode::Sort {
         input,
         keys: given.as_slice(),

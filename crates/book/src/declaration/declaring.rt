@@ -22,6 +22,7 @@ impl Book {
     }
 
     /// Declares a function: a free number from 0 to 63, a name, 0 to 4 arguments, a rule from 0 to 4.
+    // The rule comes as its number, since outside a book codes and refusals are known by number.
     pub fn declare(
         &mut self,
         number: u8,

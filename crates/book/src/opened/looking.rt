@@ -13,7 +13,8 @@ ghost use Rattle.tables.specs.Reading.{ReadsAs};
 ghost use Rattle.tables.specs.Tracing.{found_plan};
 ghost use Rattle.table.specs.Contents.{part};
 ghost use Rattle.terms.specs.Build.{numbers_in};
-ghost use Rattle.terms.specs.Spans.{function_in, span_in, stored_field, stored_in, word};
+ghost use Rattle.terms.specs.Spans.{function_in, stored_field, stored_in};
+ghost use Rattle.names.specs.Spans.{span_in, word};
 ghost use Rattle.terms.specs.Views.{tree_for};
 
 use super::OpenBook;

@@ -64,6 +64,7 @@ impl OpenBook {
     }
 
     /// A Join by the kind of this number, on at most 16 conditions.
+    // A number, since outside a book codes and refusals are known by number.
     pub fn join(
         &mut self,
         kind: u8,

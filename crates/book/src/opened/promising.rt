@@ -15,7 +15,7 @@ impl OpenBook {
         requires second { b.0 < count_of (book_of self.now) }
         ensures { result ≡ (origin_at (book_of self.now) a.0 == origin_at (book_of self.now) b.0) }
     {
-        self.tables.origin_of(a).0 == self.tables.origin_of(b).0
+        self.tables.origin_of(a) == self.tables.origin_of(b)
     }
 
     fn ask_origin(&self, a: PlanId, b: PlanId) -> Result<bool, Fault>

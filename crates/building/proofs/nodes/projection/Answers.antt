@@ -1,8 +1,8 @@
-use Rattle.std.proofs.Common.{◌≡◌, true, not, leb, [], ◌∷◌, length, sym, refl, ap, ◌∙◌, subst}
+use Rattle.std.proofs.Common.{not, leb, [], ◌∷◌, length, sym, refl, ap, ◌∙◌}
 use Rattle.std.proofs.lemmas.List.{length-map}
 use Rattle.std.proofs.lemmas.Bool.{and_parts}
 use Rattle.plan.specs.Calls.Call.{make_projection}
-use Rattle.plan.specs.Calls.{node_outlay}
+use Rattle.plan.specs.Calls.{between, node_outlay}
 use Rattle.terms.specs.Views.{numbers_of}
 use Rattle.plan.specs.declared.fault.Question.TheVariants.{Present, Bounded, Placed}
 use Rattle.tables.specs.Holding.{view_in}
@@ -16,7 +16,7 @@ make-requires c =
     let l = c.args.list.now in
     record {
       present = sym c.has_list.ensures ∙ c.in_ok-ask.ensures;
-      bounded = subst (λ n. leb n 64 ≡ true) (length-map l (λ e. e.0)) (and_parts (leb 1 (length (numbers_of l))) _ (sym c.is_between.ensures ∙ c.in_ok-ask-2.ensures)).1;
+      bounded = (and_parts (leb 1 (length l)) _ (sym c.is_count.ensures ∙ c.in_ok-ask-2.ensures)).1;
       named = refl;
     }
 
@@ -25,6 +25,6 @@ returns c =
     let t = c.args.tables.now in
     plan-answers t (Projection c.args.input c.args.list) (make_projection c.args.input.0 (numbers_of c.args.list.now)) ((Present, _) ∷ (Bounded, _) ∷ (Placed, _) ∷ [])
     (record { asks = refl; own_first = refl; exprs = refl; plans = refl; inputs = refl; costs = ap (λ k. node_outlay (view_in t).functions (tree_for t (Projection c.args.input c.args.list)) k 0) (length-map c.args.list.now (λ e. e.0)); number = refl })
-    (sym c.has_list.ensures ∙ c.in_ok-ask.ensures, (sym c.is_between.ensures ∙ c.in_ok-ask-2.ensures, (ap not (sym c.any_total.ensures) ∙ c.in_ok-ask-3.ensures, tt)))
+    (sym c.has_list.ensures ∙ c.in_ok-ask.ensures, (ap (between 1 64) (length-map c.args.list.now (λ e. e.0)) ∙ sym c.is_count.ensures ∙ c.in_ok-ask-2.ensures, (ap not (sym c.any_total.ensures) ∙ c.in_ok-ask-3.ensures, tt)))
     c.make.result _
     c.make.ensures

@@ -1,4 +1,4 @@
-use Rattle.std.proofs.Common.{◌+◌, ◌&&◌, leb, [], ◌∷◌, length, sym, refl, ◌∙◌, ap₂}
+use Rattle.std.proofs.Common.{◌+◌, ◌&&◌, ltb, leb, [], ◌∷◌, length, sym, refl, ◌∙◌, ap₂}
 use Rattle.std.proofs.lemmas.List.{length-map}
 use Rattle.std.proofs.lemmas.Bool.{and_parts}
 use Rattle.plan.specs.Calls.Call.{make_aggregate}
@@ -23,10 +23,9 @@ pub make-requires : goal.make-requires
 make-requires c =
     let gs = c.args.groups.now in
     let us = c.args.totals.now in
-    let few = and_parts (leb (length (numbers_of gs)) 16 && leb (length (numbers_of us)) 16) _ (sym c.are_few.ensures ∙ c.in_ok-ask-2.ensures) in
     record {
       present = sym c.has_lists.ensures ∙ c.in_ok-ask.ensures;
-      bounded = ap₂ (λ g u. leb g 16 && leb u 16) (sym (length-map gs (λ e. e.0))) (sym (length-map us (λ e. e.0))) ∙ few.0;
+      bounded = (and_parts (leb (length gs) 16 && leb (length us) 16) _ (sym c.are_few.ensures ∙ c.in_ok-ask-2.ensures)).0;
       named = refl;
     }
 
@@ -36,8 +35,10 @@ returns c =
     let gs = c.args.groups.now in
     let us = c.args.totals.now in
     let n = Aggregate c.args.input c.args.groups c.args.totals in
+    let lg = length-map gs (λ e. e.0) in
+    let lu = length-map us (λ e. e.0) in
     plan-answers t n (make_aggregate c.args.input.0 (numbers_of gs) (numbers_of us)) ((Present, _) ∷ (Bounded, _) ∷ (Placed, _) ∷ [])
-    (record { asks = refl; own_first = refl; exprs = refl; plans = refl; inputs = refl; costs = ap₂ (λ g u. node_outlay (view_in t).functions (tree_for t n) (g + u) 0) (length-map gs (λ e. e.0)) (length-map us (λ e. e.0)); number = refl })
-    (sym c.has_lists.ensures ∙ c.in_ok-ask.ensures, (sym c.are_few.ensures ∙ c.in_ok-ask-2.ensures, (sym c.are_placed.ensures ∙ c.in_ok-ask-3.ensures, tt)))
+    (record { asks = refl; own_first = refl; exprs = refl; plans = refl; inputs = refl; costs = ap₂ (λ g u. node_outlay (view_in t).functions (tree_for t n) (g + u) 0) lg lu; number = refl })
+    (sym c.has_lists.ensures ∙ c.in_ok-ask.ensures, (ap₂ (λ g u. (leb g 16 && leb u 16) && ltb 0 (g + u)) lg lu ∙ sym c.are_few.ensures ∙ c.in_ok-ask-2.ensures, (sym c.are_placed.ensures ∙ c.in_ok-ask-3.ensures, tt)))
     c.make.result _
     c.make.ensures

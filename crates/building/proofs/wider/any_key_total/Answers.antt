@@ -1,35 +1,22 @@
-use Rattle.std.proofs.Common.{ℕ, ◌+◌, ◌||◌, List, map, length, drop, sym, ap, ◌∙◌}
-use Rattle.table.proofs.Loops.{twice-step, twice-end}
-use Rattle.plan.specs.Fields.{any}
+use Rattle.std.proofs.Common.{ap, ◌∙◌, arith, rules, tests}
+use Rattle.std.proofs.lemmas.Iterator.{YieldsList-from_slice}
+use Rattle.std.proofs.lemmas.Iterator.Adapters.{serves_from_places}
+use Rattle.std.proofs.lemmas.Iterator.Search.{any_from_yields_List}
 use Rattle.plan.specs.Functions.{is_total}
-use Rattle.plan.specs.Model.{exprs_in}
+use Rattle.plan.specs.Model.{expr_in}
 use Rattle.tables.specs.Holding.{view_in}
-use Rattle.building.specs.Keys.{key_pair, key_pairs}
 use Rattle.tables.specs.declared.node.Key.{Key}
+use Rattle.building.specs.Keys.{key_pair}
 use Rattle.building.proofs.SortFacts.{given_below}
+use Rattle.building.proofs.Searches.{any-mapped-thrice}
 use Rattle.building.proofs.wider.any_key_total.Goals as goal
 
-abbrev zero : Key
-zero = record { by = record { 0 = 0 }; direction = 0 }
-
-pub is_total-requires : goal.is_total-requires
-is_total-requires c = given_below (length (view_in c.args.tables.now).trees) c.args.keys.now c.loop-key.key-index zero c.loop-key-test.true c.requires
-
-pub returns-then-is_total : goal.returns-then-is_total
-returns-then-is_total c =
-    let v = view_in c.args.tables.now in
-    let ks = c.args.keys.now in
-    let some = λ (l : List ℕ). any (is_total v.functions) (exprs_in v.trees l) in
-    sym (c.loop-key.invariant ∙ twice-step some (λ k. k.0) key_pair ks c.loop-key.key-index zero c.loop-key-test.true ∙ ap (λ b. b || some (drop (c.loop-key.key-index + 1) (map (λ k. k.0) (key_pairs ks)))) (sym c.if-is_total.ensures))
-
-pub loop-key-preserved : goal.loop-key-preserved
-loop-key-preserved c =
-    let v = view_in c.args.tables.now in
-    let ks = c.args.keys.now in
-    let some = λ (l : List ℕ). any (is_total v.functions) (exprs_in v.trees l) in
-    c.loop-key.invariant ∙ twice-step some (λ k. k.0) key_pair ks c.loop-key.key-index zero c.loop-key-test.true ∙ ap (λ b. b || some (drop (c.loop-key.key-index + 1) (map (λ k. k.0) (key_pairs ks)))) (sym c.if-is_total.ensures)
+pub any-requires-clause-callable : goal.any-requires-clause-callable
+any-requires-clause-callable c =
+    serves_from_places (YieldsList-from_slice c.args.keys.now c.iter.ensures.rest) (λ x q r. search (rules, tests)) (λ x k lt e. omega (arith, given_below _ _ k x.now lt c.requires, ap (λ y. y.by.0) e))
 
 pub returns : goal.returns
 returns c =
     let v = view_in c.args.tables.now in
-    sym (c.loop-key.invariant ∙ twice-end (λ l. any (is_total v.functions) (exprs_in v.trees l)) (λ k. k.0) key_pair c.args.keys.now c.loop-key.key-index c.loop-key-test.false)
+    any_from_yields_List (λ (k : Key). is_total v.functions (expr_in v.trees k.by.0)) _ _ c.any.result c.any.ensures.ran (YieldsList-from_slice _ c.iter.ensures.rest) (λ x b q k. search (rules, tests))
+    ∙ any-mapped-thrice (is_total v.functions) (expr_in v.trees) (λ k. k.0) key_pair c.args.keys.now

@@ -1,9 +1,0 @@
-use Rattle.std.proofs.Common.{◌≡◌, drop, is_some}
-use Rattle.plan.specs.Codes.{direction_of}
-use Rattle.plan.specs.Fields.{every}
-use Rattle.building.specs.Keys.{key_pairs}
-use Rattle.building.proofs.wider.all_directed.Given as goal
-
-abbrev pub invariant-loop-key : goal.invariant-loop-key
-invariant-loop-key l =
-    every (λ k. is_some (direction_of k.1)) (key_pairs l.keys) ≡ every (λ k. is_some (direction_of k.1)) (drop l.key-index (key_pairs l.keys))
