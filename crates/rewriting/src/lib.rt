@@ -13,71 +13,51 @@ ghost use Rattle.std.specs.Prelude.{◌≡◌, true};
 
 /// After any list of calls of an opened book: nodes with one origin have the same fields, and in every world that fits the same rows;
 /// every reference means one field; and an extract leaves no Marked call that exactly one former input owns.
-pub fn calls_keep_the_law() -> u8
+pub fn calls_keep_the_law()
     ensures { Law }
-{
-    0
-}
+{}
 
 /// The law holds of every book that was reached by calls, and one more call keeps it so.
-pub fn reached_books_keep_the_law() -> u8
+pub fn reached_books_keep_the_law()
     ensures { ReachedHolds }
-{
-    0
-}
+{}
 
 /// What extract builds has the fields and the rows of the node asked about, and every reference of it means one field.
-pub fn extract_keeps() -> u8
+pub fn extract_keeps()
     ensures { ExtractLaw }
-{
-    0
-}
+{}
 
 /// What push builds has the fields and the rows of the node asked about, and every reference of it means one field.
-pub fn push_keeps() -> u8
+pub fn push_keeps()
     ensures { PushLaw }
-{
-    0
-}
+{}
 
 /// After an extract the rebuilt node has, outside prefixed aliases, no Marked call that exactly one former input owns.
-pub fn extract_leaves_nothing() -> u8
+pub fn extract_leaves_nothing()
     ensures { ExtractLeavesNothing }
-{
-    0
-}
+{}
 
 /// A generated alias is no name and no text literal of the book.
-pub fn generated_is_new() -> u8
+pub fn generated_is_new()
     ensures { GeneratedIsNew }
-{
-    0
-}
+{}
 
 /// A generated alias is a name that an alias may have, and its number is the one that it was made from.
-pub fn generated_is_good() -> u8
+pub fn generated_is_good()
     ensures { GeneratedIsGood }
-{
-    0
-}
+{}
 
 /// Push is four functions that call one another, the height below the Projection falling.
-pub fn push_is_a_ring() -> u8
+pub fn push_is_a_ring()
     ensures { RingHolds }
-{
-    0
-}
+{}
 
 /// Extract and push make of the worked plans what is written out for them.
-pub fn worked_plans_hold() -> u8
+pub fn worked_plans_hold()
     ensures { worked_plans_hold ≡ true }
-{
-    0
-}
+{}
 
 /// One run of twelve calls, an extract and a swap among them, leads where it is written to lead.
-pub fn sample_run_holds() -> u8
+pub fn sample_run_holds()
     ensures { SampleRun }
-{
-    0
-}
+{}
