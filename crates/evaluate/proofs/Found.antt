@@ -1,8 +1,11 @@
 -- Where a reference finds its field.
-use Rattle.std.proofs.Common.{◌≡◌, ℕ, suc, ◌+◌, ◌<◌, Bool, true, false, cond, ◌&&◌, ◌||◌, List, [], ◌∷◌, length, count_by, sym, refl, ap, ◌∙◌, arith}
+use Rattle.std.proofs.Common.{◌≡◌, ℕ, suc, ◌+◌, ◌<◌, ◌≤◌, Bool, true, false, cond, not, ltb, ◌&&◌, ◌||◌, List, [], ◌∷◌, map, length, Some, None, count_by, sym, refl, ap, ◌∙◌, arith}
 use Rattle.std.specs.Str.{bytes_eq}
-use Rattle.std.proofs.lemmas.List.Sums.{sum_by-cons}
-use Rattle.std.proofs.lemmas.Bool.{and_parts, eqb-true, false≢true}
+use Rattle.std.specs.Option.{unwrap_or}
+use Rattle.std.specs.List.{position_or_len}
+use Rattle.std.proofs.lemmas.List.Recursion.{is_position_or_len}
+use Rattle.std.proofs.lemmas.List.Sums.{prefix_len-le-length, sum_by-cons}
+use Rattle.std.proofs.lemmas.Bool.{and_parts, eqb-true, false≢true, ltb-false}
 use Rattle.plan.specs.Fields.{any, named, resolved, resolves}
 use Rattle.plan.specs.Names.{Name}
 use Rattle.plan.specs.Terms.{Expr, Field, Qualifier, same_field, same_qualifier}
@@ -10,37 +13,25 @@ use Rattle.plan.specs.Terms.Qualifier.{qualified, unqualified}
 use Rattle.plan.specs.Terms.Expr.{reference}
 use Rattle.rows.specs.Rows.{may_mean, seek, under}
 
-pub under_none : (q : Qualifier) → under unqualified q ≡ true
-unfolding under
-under_none q = refl
-
-pub under-lost : (n : Name) → under (qualified n) unqualified ≡ false
-unfolding under
-under-lost n = refl
-
-pub under-both : (m n : Name) → under (qualified m) (qualified n) ≡ bytes_eq m n
-unfolding under
-under-both m n = refl
-
 pub means-by : (r f : Field) → may_mean r f ≡ (under r.qualifier f.qualifier && bytes_eq r.name f.name)
 unfolding may_mean
 means-by r f = refl
 
+-- what `position` answers, and the number of items where it finds none
+pub seek-position : {X : Type 0} (r : Field) (f : X → Field) (xs : List X)
+    → unwrap_or (cond (ltb (position_or_len (λ x. may_mean r (f x)) xs) (length xs)) (Some (position_or_len (λ x. may_mean r (f x)) xs)) None) (length xs) ≡ seek r (map f xs)
+unfolding seek
+seek-position r f xs =
+    let p = position_or_len (λ x. may_mean r (f x)) xs in
+    let le : p ≤ length xs = prefix_len-le-length (λ x. not (may_mean r (f x))) xs in
+    go p (length xs) le (ltb p (length xs)) refl
+    ∙ sym (is_position_or_len (λ ys. seek r (map f ys)) (λ x. may_mean r (f x)) refl (λ x ys. ap (λ k. cond (may_mean r (f x)) 0 k) (omega arith)) xs)
+  where
+    go : (p n : ℕ) → p ≤ n → (b : Bool) → ltb p n ≡ b → unwrap_or (cond b (Some p) None) n ≡ p
+    go p n le true e = refl
+    go p n le false e = omega (arith, le, ltb-false p n e)
+
 module _ (r : Field) where
-  -- the next field is meant
-  pub seek-here : (f : Field) (fs : List Field) (i : ℕ) → may_mean r f ≡ true → i + seek r (f ∷ fs) ≡ i
-  unfolding seek
-  seek-here f fs i h = ap (λ b. i + cond b 0 (suc (seek r fs))) h ∙ omega arith
-
-  -- the next field is passed over
-  pub seek-past : (f : Field) (fs : List Field) (i : ℕ) → may_mean r f ≡ false → i + seek r (f ∷ fs) ≡ (i + 1) + seek r fs
-  unfolding seek
-  seek-past f fs i h = ap (λ b. i + cond b 0 (suc (seek r fs))) h ∙ omega arith
-
-  pub seek-none : (i : ℕ) → i + seek r [] ≡ i
-  unfolding seek
-  seek-none i = omega arith
-
   -- where a field may be meant, one is found
   found : (fs : List Field) → any (may_mean r) fs ≡ true → seek r fs < length fs
   unfolding seek

@@ -1,6 +1,7 @@
 -- An engine that is strict wherever a book says so fits it.
-use Rattle.std.proofs.Common.{◌≡◌, ℕ, zero, suc, ◌+◌, ◌<◌, ◌≤◌, Bool, true, false, not, ◌&&◌, ◌||◌, T, List, [], ◌∷◌, length, drop, None, Option, sym, refl, ap, ◌∙◌, arith}
-use Rattle.std.proofs.lemmas.List.{at_drop_all, at_drop_more, get_or_past}
+use Rattle.std.proofs.Common.{◌≡◌, ℕ, zero, suc, ◌+◌, ◌<◌, Bool, true, false, not, ◌&&◌, ◌||◌, T, List, [], ◌∷◌, length, None, Option, sym, refl, ap, ◌∙◌, ap₂, arith}
+use Rattle.std.specs.List.{list_all, range_with_len}
+use Rattle.std.proofs.lemmas.List.{get_or_past}
 use Rattle.std.proofs.lemmas.Bool.{and_parts}
 use Rattle.table.specs.Fold.{all_ok}
 use Rattle.plan.specs.Fields.{any}
@@ -19,12 +20,14 @@ same-nulls [] = refl
 same-nulls (v ∷ vs) = ap (λ b. is_null_value v || b) (same-nulls vs)
 
 module _ (strict : ℕ → Bool) where
-  -- one number more
-  pub suits-step : (fs : Functions) (i : ℕ) → i < length fs → all_ok (suits_at strict) i (drop i fs) ≡ (suits_at strict i (function_at fs i) && all_ok (suits_at strict) (i + 1) (drop (i + 1) fs))
-  suits-step fs i lt = at_drop_more (all_ok (suits_at strict) i) fs i None lt
-
-  pub suits-end : (fs : Functions) (i : ℕ) → length fs ≤ i → all_ok (suits_at strict) i (drop i fs) ≡ true
-  suits-end fs i le = at_drop_all (all_ok (suits_at strict) i) fs i le
+  -- each number, by the list of numbers
+  pub suits-each : (at : ℕ → Option Function) (fs : Functions) (i : ℕ) → ((j : ℕ) → j < length fs → at (i + j) ≡ function_at fs j) → list_all (λ n. suits_at strict n (at n)) (range_with_len i (length fs)) ≡ all_ok (suits_at strict) i fs
+  suits-each at [] i h = refl
+  suits-each at (f ∷ fs) i h =
+      let z : i + 0 ≡ i = omega arith in
+      let here : at i ≡ f = sym (ap at z) ∙ h 0 (omega arith) in
+      let later : (j : ℕ) → j < length fs → at ((i + 1) + j) ≡ function_at fs j = λ j lt. let y : (i + 1) + j ≡ i + suc j = omega arith in ap at y ∙ h (suc j) (omega arith) in
+      ap₂ (λ o b. suits_at strict i o && b) here (suits-each at fs (i + 1) later)
 
   each-suits : (fs : Functions) (i n : ℕ) → all_ok (suits_at strict) i fs ≡ true → suits_at strict (i + n) (function_at fs n) ≡ true
   each-suits [] i n h = ap (suits_at strict (i + n)) (get_or_past [] n None (omega arith))

@@ -11,6 +11,7 @@ use Rattle.plan.specs.Values.Value.{null}
 use Rattle.terms.specs.Build.{inside_node, numbers_in}
 use Rattle.terms.specs.Views.{tree_of, view_of}
 use Rattle.terms.specs.declared.node.ExprNode.TheVariants.{Call}
+use Rattle.terms.specs.declared.node.Run.{Run}
 use Rattle.terms.specs.declared.terms.Terms.{Terms}
 use Rattle.terms.proofs.Frames.{every-at}
 use Rattle.terms.proofs.Walks.{called, resolved-arguments}
@@ -84,32 +85,32 @@ one_more m f xs es i x d lt in-es inv h =
     ap (map m) (take_more_set xs i x lt) ∙ map_push m (take i xs) x ∙ ap₂ (λ vs v. vs ++ v ∷ []) inv h ∙ sym (ap (map f) (take_more es i d in-es) ∙ map_push f (take i es) (get_or es i d))
 
 -- the arguments of a call
-abbrev pub arguments_of : Terms → ℕ → ℕ → List Expr
-arguments_of t first count = map (expr_in (view_of t).trees) (numbers_in (view_of t).entries first count)
+abbrev pub arguments_of : Terms → Run → List Expr
+arguments_of t run = map (expr_in (view_of t).trees) (numbers_in (view_of t).entries run.first run.count)
 
 -- what the walk knows of a call e whose arguments stand in the list table
-module _ (t : Terms) (e f first count : ℕ) (inside : inside_node (view_of t).bytes (view_of t).entries e (Call f first count) ≡ true) (tree : tree_of t e ≡ call f (arguments (arguments_of t first count))) where
-  pub counted : length (arguments_of t first count) ≡ count
+module _ (t : Terms) (e f : ℕ) (run : Run) (inside : inside_node (view_of t).bytes (view_of t).entries e (Call f run) ≡ true) (tree : tree_of t e ≡ call f (arguments (arguments_of t run))) where
+  pub counted : length (arguments_of t run) ≡ run.count
   counted =
-      length-map (numbers_in (view_of t).entries first count) (expr_in (view_of t).trees) ∙ (called (view_of t).bytes (view_of t).entries e f first count inside).counts
+      length-map (numbers_in (view_of t).entries run.first run.count) (expr_in (view_of t).trees) ∙ (called (view_of t).bytes (view_of t).entries e f run inside).counts
 
-  pub enough : (room : ℕ) → size_of (tree_of t e) ≤ room → count ≤ room
-  enough room h = omega (arith, places (arguments_of t first count), counted, ap size_of tree)
+  pub enough : (room : ℕ) → size_of (tree_of t e) ≤ room → run.count ≤ room
+  enough room h = omega (arith, places (arguments_of t run), counted, ap size_of tree)
 
-  module _ (i a : ℕ) (lt : i < count) (is : a ≡ get_or (numbers_in (view_of t).entries first count) i 0) where
+  module _ (i a : ℕ) (lt : i < run.count) (is : a ≡ get_or (numbers_in (view_of t).entries run.first run.count) i 0) where
     pub lower : a < e
-    lower = omega (arith, (called (view_of t).bytes (view_of t).entries e f first count inside).lower i lt)
+    lower = omega (arith, (called (view_of t).bytes (view_of t).entries e f run inside).lower i lt)
 
-    pub argument : tree_of t a ≡ get_or (arguments_of t first count) i no_expr
+    pub argument : tree_of t a ≡ get_or (arguments_of t run) i no_expr
     argument =
-        let long : i < length (numbers_in (view_of t).entries first count) = omega (arith, (called (view_of t).bytes (view_of t).entries e f first count inside).counts) in
-        ap (tree_of t) is ∙ sym (get_or-map (expr_in (view_of t).trees) (numbers_in (view_of t).entries first count) i 0 no_expr long)
+        let long : i < length (numbers_in (view_of t).entries run.first run.count) = omega (arith, (called (view_of t).bytes (view_of t).entries e f run inside).counts) in
+        ap (tree_of t) is ∙ sym (get_or-map (expr_in (view_of t).trees) (numbers_in (view_of t).entries run.first run.count) i 0 no_expr long)
 
     pub argument-resolved : (fs : List Field) → resolved fs (tree_of t e) ≡ true → resolved fs (tree_of t a) ≡ true
     argument-resolved fs h =
         ap (resolved fs) argument
-        ∙ every-at (resolved fs) (arguments_of t first count) i no_expr (omega (arith, counted)) (sym (resolved-arguments fs (arguments_of t first count)) ∙ sym (ap (resolved fs) tree) ∙ h)
+        ∙ every-at (resolved fs) (arguments_of t run) i no_expr (omega (arith, counted)) (sym (resolved-arguments fs (arguments_of t run)) ∙ sym (ap (resolved fs) tree) ∙ h)
 
-    pub argument-room : (room rest : ℕ) → size_of (tree_of t e) ≤ room → rest + count ≡ room → size_of (tree_of t a) ≤ rest
+    pub argument-room : (room rest : ℕ) → size_of (tree_of t e) ≤ room → rest + run.count ≡ room → size_of (tree_of t a) ≤ rest
     argument-room room rest h k =
-        omega (arith, beside (arguments_of t first count) i no_expr (omega (arith, counted)), counted, ap size_of tree, ap size_of argument)
+        omega (arith, beside (arguments_of t run) i no_expr (omega (arith, counted)), counted, ap size_of tree, ap size_of argument)

@@ -12,7 +12,7 @@ use engine::Engine;
 use plan::fault::{Fault, Question, ask};
 use terms::node::{ExprId, PlanId};
 use value::Value;
-use valuing::asked_value;
+use valuing::Row;
 
 mod seeking;
 #[cfg(test)]
@@ -23,10 +23,7 @@ mod valuing;
 fn fits_at<E: Engine>(book: &OpenBook, engine: &E, number: u8) -> bool
     ensures { result ≡ suits_at (E.Engine.strict engine.now) number (function_at (book_of book.now).functions number) }
 {
-    match book.function(number) {
-        Some(declared) => !declared.strict || engine.is_strict(number as u32),
-        None => true,
-    }
+    book.function(number).is_none_or(|declared| !declared.strict || engine.is_strict(number as u32))
 }
 
 /// Whether every function that the book declares strict is strict in the engine.
@@ -34,12 +31,7 @@ pub fn fits<E: Engine>(book: &OpenBook, engine: &E) -> bool
     ensures value { result ≡ suits (E.Engine.strict engine.now) (book_of book.now).functions }
     ensures worlds { result ≡ true → FitsAll (book_of book.now).functions (E.Engine.meaning engine.now) }
 {
-    for number in 0..64 {
-        if !fits_at(book, engine, number) {
-            return false;
-        }
-    }
-    true
+    (0..64).all(|number| fits_at(book, engine, number))
 }
 
 /// The value of an expression on a row that has the fields of a node: one value for each field, and the text that
@@ -57,5 +49,11 @@ pub fn evaluate<E: Engine>(
 {
     ask(book.terms().has(e), Question::Present)?;
     let fields = book.node_fields(p)?;
-    asked_value(book.terms(), engine, fields, values, row, e, scratch)
+    let row = Row {
+        terms: book.terms(),
+        fields,
+        values,
+        text: row,
+    };
+    row.asked_value(engine, e, scratch)
 }

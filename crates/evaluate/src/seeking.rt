@@ -5,22 +5,20 @@ ghost use Rattle.terms.specs.Spans.{qualifier_at, qualifier_in, stored_field, st
 ghost use Rattle.terms.specs.Views.{view_of};
 ghost use Rattle.std.specs.Prelude.{◌≡◌, true, map};
 
-use names::same_bytes;
-use terms::node::{Qualifier, StoredField};
+use terms::node::{Span, StoredField};
 use terms::terms::Terms;
 
 /// Whether the first qualifier is not said, or both are the same.
-fn is_under(terms: &Terms, a: Qualifier, b: Qualifier) -> bool
+#[tactic(auto, unfolding(rows::specs::Rows::under))]
+fn is_under(terms: &Terms, a: Option<Span>, b: Option<Span>) -> bool
     requires left { qualifier_in (view_of terms.now).bytes a ≡ true }
     requires right { qualifier_in (view_of terms.now).bytes b ≡ true }
     ensures { result ≡ under (qualifier_at (view_of terms.now).bytes a) (qualifier_at (view_of terms.now).bytes b) }
 {
-    match a {
-        Qualifier::Unqualified => true,
-        Qualifier::Qualified(x) => match b {
-            Qualifier::Unqualified => false,
-            Qualifier::Qualified(y) => same_bytes(terms.word(x), terms.word(y)),
-        },
+    match (a, b) {
+        (None, _) => true,
+        (Some(_), None) => false,
+        (Some(x), Some(y)) => terms.word(x) == terms.word(y),
     }
 }
 
@@ -31,19 +29,18 @@ fn may_mean(terms: &Terms, reference: StoredField, field: StoredField) -> bool
     ensures { result ≡ may_mean (stored_field (view_of terms.now).bytes reference) (stored_field (view_of terms.now).bytes field) }
 {
     is_under(terms, reference.qualifier, field.qualifier)
-        && same_bytes(terms.word(reference.name), terms.word(field.name))
+        && terms.word(reference.name) == terms.word(field.name)
 }
 
 /// The place of the first field that a reference may mean; where there is none, the number of fields.
+// A number for none, not an option: the definition `seek`, which says what a row means, answers so.
 pub(crate) fn seek(terms: &Terms, fields: &[StoredField], reference: StoredField) -> usize
     requires stored { every (stored_in (view_of terms.now).bytes) fields.now ≡ true }
     requires reference { stored_in (view_of terms.now).bytes reference ≡ true }
     ensures { result ≡ seek (stored_field (view_of terms.now).bytes reference) (map (stored_field (view_of terms.now).bytes) fields.now) }
 {
-    for i in 0..fields.len() {
-        if may_mean(terms, reference, fields[i]) {
-            return i;
-        }
-    }
-    fields.len()
+    fields
+        .iter()
+        .position(|field| may_mean(terms, reference, *field))
+        .unwrap_or(fields.len())
 }

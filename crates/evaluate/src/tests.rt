@@ -1,5 +1,4 @@
 //! What is evaluated on examples, what is refused, and what fits.
-ghost use Rattle.std.specs.Prelude.{◌≡◌, None};
 
 use super::{evaluate, fits};
 use book::declaration::Book;
@@ -29,15 +28,9 @@ fn opened(missing: bool) -> Result<OpenBook, Fault> {
     Ok(open)
 }
 
-fn unqualified<'a>() -> Option<&'a [u8]>
-    ensures { result ≡ None }
-{
-    None
-}
-
 /// A call of two columns.
 fn of_columns(book: &mut OpenBook, number: u8) -> Result<ExprId, Fault> {
-    let a = book.reference(b"a", unqualified())?;
+    let a = book.reference(b"a", None)?;
     let b = book.reference(b"b", Some(b"t"))?;
     book.call(number, &[a, b])
 }
@@ -67,24 +60,15 @@ fn part(start: u32, len: u32) -> Value {
 }
 
 fn is_null(v: Value) -> bool {
-    match v {
-        Value::Null => true,
-        _ => false,
-    }
+    matches!(v, Value::Null)
 }
 
 fn is_whole(v: Value, n: i64) -> bool {
-    match v {
-        Value::Whole(m) => m == n,
-        _ => false,
-    }
+    matches!(v, Value::Whole(m) if m == n)
 }
 
 fn is_truth(v: Value, b: bool) -> bool {
-    match v {
-        Value::Truth(t) => t == b,
-        _ => false,
-    }
+    matches!(v, Value::Truth(t) if t == b)
 }
 
 #[test]
@@ -103,8 +87,8 @@ fn sums(rt: HostRuntime) -> Result<(), Fail> {
 fn arguments_keep_their_order(rt: HostRuntime) -> Result<(), Fail> {
     let mut book = opened(false)?;
     let inner = of_columns(&mut book, 2)?;
-    let named = book.alias(inner, b"a", unqualified())?;
-    let b = book.reference(b"b", unqualified())?;
+    let named = book.alias(inner, b"a", None)?;
+    let b = book.reference(b"b", None)?;
     let outer = book.call(2, &[b, named])?;
     assert!(rt;
         is_whole(
@@ -124,7 +108,7 @@ fn arguments_keep_their_order(rt: HostRuntime) -> Result<(), Fail> {
 #[test]
 fn real_literals(rt: HostRuntime) -> Result<(), Fail> {
     let mut book = opened(false)?;
-    let a = book.reference(b"a", unqualified())?;
+    let a = book.reference(b"a", None)?;
     let zero = book.real(-0.0)?;
     let like_zero = book.call(0, &[a, zero])?;
     let odd = book.real(0.0 / 0.0)?;
@@ -142,7 +126,7 @@ fn real_literals(rt: HostRuntime) -> Result<(), Fail> {
 #[test]
 fn text_literals(rt: HostRuntime) -> Result<(), Fail> {
     let mut book = opened(false)?;
-    let a = book.reference(b"a", unqualified())?;
+    let a = book.reference(b"a", None)?;
     let age = book.text(b"age")?;
     let like_age = book.call(0, &[a, age])?;
     let lost = book.call(4, &[a])?;
@@ -155,6 +139,7 @@ fn text_literals(rt: HostRuntime) -> Result<(), Fail> {
 }
 
 /// Whether a call is refused with a question, at stage 1 and level 0, and leaves threes in the scratch.
+// A number, since outside a book refusals are known by number.
 fn refuses(
     book: &OpenBook,
     e: u32,
@@ -173,29 +158,24 @@ fn refuses(
         scratch,
     ) {
         Ok(_) => false,
-        Err(f) => f.question.number() == question
-            && f.stage.number() == 1
+        Err(f) => u8::from(f.question) == question
+            && u8::from(f.stage) == 1
             && f.level == 0
             && is_kept(scratch),
     }
 }
 
 fn is_kept(scratch: &[Value]) -> bool {
-    for v in scratch {
-        if !is_whole(*v, 3) {
-            return false;
-        }
-    }
-    true
+    scratch.iter().all(|v| is_whole(*v, 3))
 }
 
 #[test]
 fn refusals(rt: HostRuntime) -> Result<(), Fail> {
     let mut book = opened(false)?;
-    let a = book.reference(b"a", unqualified())?;
+    let a = book.reference(b"a", None)?;
     let sum = book.call(SUM, &[a])?;
-    let named = book.alias(sum, b"sum", unqualified())?;
-    let c = book.reference(b"c", unqualified())?;
+    let named = book.alias(sum, b"sum", None)?;
+    let c = book.reference(b"c", None)?;
     let inside = book.call(4, &[c])?;
     let two = [Value::Null, Value::Null];
     let one = [Value::Null];

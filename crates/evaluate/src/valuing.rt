@@ -34,86 +34,72 @@ fn constant(v: Literal) -> Value
     }
 }
 
-/// The value of an expression. The arguments of a call stand in the front of the scratch, and each is valued in the rest.
-pub(crate) fn value_of<E: Engine>(
-    terms: &Terms,
-    engine: &E,
-    fields: &[StoredField],
-    values: &[Value],
-    row: &[u8],
-    e: ExprId,
-    scratch: &mut [Value],
-) -> Value
-    requires stored { every (stored_in (view_of terms.now).bytes) fields.now ≡ true }
-    requires wide { length values.now ≡ length fields.now }
-    requires present { e.0 < count terms.now }
-    requires resolved { resolved (map (stored_field (view_of terms.now).bytes) fields.now) (tree_of terms.now e.0) ≡ true }
-    requires room { size_of (tree_of terms.now e.0) ≤ length scratch.old }
-    ensures { meaning_of (view_of terms.now).bytes row.now result ≡ value_in (bare (E.Engine.meaning engine.now) (view_of terms.now).bytes row.now) (map (stored_field (view_of terms.now).bytes) fields.now) (map (meaning_of (view_of terms.now).bytes row.now) values.now) (tree_of terms.now e.0) }
-{
-    match terms.node(e) {
-        ExprNode::Constant(v) => constant(v),
-        ExprNode::Reference { qualifier, name } => values[seek(
-            terms,
-            fields,
-            StoredField { qualifier, name },
-        )],
-        ExprNode::Alias { inner, .. } => value_of(
-            terms, engine, fields, values, row, inner, scratch,
-        ),
-        ExprNode::Call {
-            function,
-            first,
-            count,
-        } => {
-            let (front, rest) = scratch.split_at_mut(count as usize);
-            for i in 0..count {
-                let arg = terms.listed(first, count, i);
-                front[i as usize] = value_of(terms, engine, fields, values, row, arg, rest);
+/// A row that has the fields of a node: one value for each field, and the text that comes with the rows.
+#[derive(Clone, Copy)]
+pub(crate) struct Row<'a> {
+    pub(crate) terms: &'a Terms,
+    pub(crate) fields: &'a [StoredField],
+    pub(crate) values: &'a [Value],
+    pub(crate) text: &'a [u8],
+    ghost stored: { every (stored_in (view_of terms.now).bytes) fields.now ≡ true },
+}
+
+impl Row<'_> {
+    /// The value of an expression. The arguments of a call stand in the front of the scratch, and each is valued in the rest.
+    fn value_of<E: Engine>(&self, engine: &E, e: ExprId, scratch: &mut [Value]) -> Value
+        requires wide { length self.now.values.now ≡ length self.now.fields.now }
+        requires present { e.0 < count self.now.terms.now }
+        requires resolved { resolved (map (stored_field (view_of self.now.terms.now).bytes) self.now.fields.now) (tree_of self.now.terms.now e.0) ≡ true }
+        requires room { size_of (tree_of self.now.terms.now e.0) ≤ length scratch.old }
+        ensures { meaning_of (view_of self.now.terms.now).bytes self.now.text.now result ≡ value_in (bare (E.Engine.meaning engine.now) (view_of self.now.terms.now).bytes self.now.text.now) (map (stored_field (view_of self.now.terms.now).bytes) self.now.fields.now) (map (meaning_of (view_of self.now.terms.now).bytes self.now.text.now) self.now.values.now) (tree_of self.now.terms.now e.0) }
+    {
+        match self.terms.node(e) {
+            ExprNode::Constant(v) => constant(v),
+            ExprNode::Reference(field) => self.values[seek(self.terms, self.fields, field)],
+            ExprNode::Alias { inner, .. } => self.value_of(engine, inner, scratch),
+            ExprNode::Call {
+                function,
+                arguments,
+            } => {
+                let (front, rest) = scratch.split_at_mut(arguments.count as usize);
+                // By place: an entry of a run may be of another kind, and `listed` reads an expression.
+                for i in 0..arguments.count {
+                    let arg = self.terms.listed(arguments, i);
+                    front[i as usize] = self.value_of(engine, arg, rest);
+                }
+                engine.apply(self.terms.bytes(), self.text, function as u32, front)
             }
-            engine.apply(terms.bytes(), row, function as u32, front)
         }
     }
-}
 
-/// Whether each field has a value, and the scratch a place for each node of the largest tree.
-fn has_places(fields: &[StoredField], values: &[Value], scratch: &[Value]) -> bool
-    ensures { result ≡ (length values.now == length fields.now && nat_le 256 (length scratch.now)) }
-{
-    values.len() == fields.len() && 256 <= scratch.len()
-}
+    /// Whether each field has a value, and the scratch a place for each node of the largest tree.
+    fn has_places(&self, scratch: &[Value]) -> bool
+        ensures { result ≡ (length self.now.values.now == length self.now.fields.now && nat_le 256 (length scratch.now)) }
+    {
+        self.values.len() == self.fields.len() && 256 <= scratch.len()
+    }
 
-/// The questions on the row: 3, 4 and 6.
-fn ask_row(
-    terms: &Terms,
-    fields: &[StoredField],
-    values: &[Value],
-    e: ExprId,
-    scratch: &[Value],
-) -> Result<(), Fault>
-    requires stored { every (stored_in (view_of terms.now).bytes) fields.now ≡ true }
-    requires present { e.0 < count terms.now }
-    ensures { Settled (row_asked (view_of terms.now).functions (map (stored_field (view_of terms.now).bytes) fields.now) (tree_of terms.now e.0) (length values.now) (length scratch.now)) (λ _. Unit {0}) (Unit {0}) result }
-{
-    ask(has_places(fields, values, scratch), Question::Bounded)?;
-    ask(!terms.is_total(e), Question::Placed)?;
-    ask(terms.resolved(fields, &[], e), Question::Resolved)
-}
+    /// The questions on the row: 3, 4 and 6.
+    fn ask(&self, e: ExprId, scratch: &[Value]) -> Result<(), Fault>
+        requires { e.0 < count self.now.terms.now }
+        ensures { Settled (row_asked (view_of self.now.terms.now).functions (map (stored_field (view_of self.now.terms.now).bytes) self.now.fields.now) (tree_of self.now.terms.now e.0) (length self.now.values.now) (length scratch.now)) (λ _. Unit {0}) (Unit {0}) result }
+    {
+        ask(self.has_places(scratch), Question::Bounded)?;
+        ask(!self.terms.is_total(e), Question::Placed)?;
+        ask(self.terms.resolved(self.fields, &[], e), Question::Resolved)
+    }
 
-/// The value of an expression on a row with some fields, or a refusal.
-pub(crate) fn asked_value<E: Engine>(
-    terms: &Terms,
-    engine: &E,
-    fields: &[StoredField],
-    values: &[Value],
-    row: &[u8],
-    e: ExprId,
-    scratch: &mut [Value],
-) -> Result<Value, Fault>
-    requires stored { every (stored_in (view_of terms.now).bytes) fields.now ≡ true }
-    requires present { e.0 < count terms.now }
-    ensures { Valued (row_asked (view_of terms.now).functions (map (stored_field (view_of terms.now).bytes) fields.now) (tree_of terms.now e.0) (length values.now) (length scratch.old)) (E.Engine.meaning engine.now) (view_of terms.now).bytes row.now (map (stored_field (view_of terms.now).bytes) fields.now) values.now (tree_of terms.now e.0) scratch.old scratch.new result }
-{
-    ask_row(terms, fields, values, e, scratch)?;
-    Ok(value_of(terms, engine, fields, values, row, e, scratch))
+    /// The value of an expression, or a refusal.
+    pub(crate) fn asked_value<E: Engine>(
+        &self,
+        engine: &E,
+        e: ExprId,
+        scratch: &mut [Value],
+    ) -> Result<Value, Fault>
+        requires { e.0 < count self.now.terms.now }
+        ensures { Valued (row_asked (view_of self.now.terms.now).functions (map (stored_field (view_of self.now.terms.now).bytes) self.now.fields.now) (tree_of self.now.terms.now e.0) (length self.now.values.now) (length scratch.old)) (E.Engine.meaning engine.now) (view_of self.now.terms.now).bytes self.now.text.now (map (stored_field (view_of self.now.terms.now).bytes) self.now.fields.now) self.now.values.now (tree_of self.now.terms.now e.0) scratch.old scratch.new result }
+    {
+        self.ask(e, scratch)?;
+        Ok(self.value_of(engine, e, scratch))
+    }
 }

@@ -2,10 +2,11 @@
 --     request_of a      the call that a value stands for
 --     answer_of r      the answer that a value stands for
 --     steps_of acts answers      each call with its answer, as long as there are both
-use Rattle.std.specs.Prelude.{List, [], ◌∷◌}
-use Rattle.plan.specs.Calls
+use Rattle.std.specs.Prelude.{ℕ, List, [], ◌∷◌, Result, Ok, Err}
+use Rattle.plan.specs.Calls.{Answer}
 use Rattle.plan.specs.Calls.Answer.{made, refused}
 use Rattle.plan.specs.Calls.Call.{make_literal, make_reference, make_alias, make_call, make_table, make_projection, make_filter, make_sort, make_limit, make_aggregate, make_join, make_subquery_alias, make_union}
+use Rattle.plan.specs.declared.fault.Fault.{Fault}
 use Rattle.plan.specs.Terms.Literal.{null, truth, whole, real, text}
 use Rattle.rewriting.specs.Book.{Request, Step}
 use Rattle.rewriting.specs.Book.Request.{build, swap}
@@ -15,8 +16,6 @@ use Rattle.terms.specs.Building.{given_field}
 use Rattle.terms.specs.Views.{numbers_of}
 use Rattle.replay.specs.declared.act.Act.{Act}
 use Rattle.replay.specs.declared.act.Act.TheVariants.{Null, Truth, Whole, Real, Text, Reference, Alias, Call, Table, Projection, Filter, Sort, Limit, Aggregate, Join, SubqueryAlias, Union, Swap}
-use Rattle.replay.specs.declared.act.Answer.{Answer}
-use Rattle.replay.specs.declared.act.Answer.TheVariants.{Made, Refused}
 
 abbrev pub request_of : Act → Request
 request_of Null = build (make_literal null)
@@ -38,11 +37,11 @@ request_of (SubqueryAlias input name) = build (make_subquery_alias input.0 name.
 request_of (Union inputs) = build (make_union (input_numbers inputs.now))
 request_of (Swap node position input) = swap node.0 position input.0
 
-abbrev pub answer_of : Answer → Calls.Answer
-answer_of (Made n) = made n
-answer_of (Refused f) = refused f
+abbrev pub answer_of : Result ℕ Fault → Answer
+answer_of (Ok n) = made n
+answer_of (Err f) = refused f
 
-abbrev pub steps_of : List Act → List Answer → List Step
+abbrev pub steps_of : List Act → List (Result ℕ Fault) → List Step
 steps_of [] rs = []
 steps_of (a ∷ acts) [] = []
 steps_of (a ∷ acts) (r ∷ rs) = (request_of a, answer_of r) ∷ steps_of acts rs

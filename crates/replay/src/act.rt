@@ -50,6 +50,7 @@ pub enum Act<'a> {
         groups: &'a [ExprId],
         totals: &'a [ExprId],
     },
+    // The kind is a number, since a call as a value takes the code as the caller gives it.
     Join {
         kind: u8,
         left: PlanId,
@@ -68,10 +69,5 @@ pub enum Act<'a> {
     },
 }
 
-/// What a call is answered.
-#[derive(Clone, Copy)]
-pub enum Answer {
-    /// The number of the expression or of the node that was made.
-    Made(u32),
-    Refused(Fault),
-}
+/// What a call is answered: the number of the expression or of the node that was made, or the refusal.
+pub type Answer = Result<u32, Fault>;

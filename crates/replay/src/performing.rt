@@ -3,74 +3,54 @@ ghost use Rattle.std.specs.Prelude.{◌≡◌, min, length, drop};
 ghost use Rattle.book.specs.Opened.{book_of};
 ghost use Rattle.replay.specs.Acts.{answer_of, request_of, steps_of};
 ghost use Rattle.rewriting.specs.Book.{Agree, Answers, Law, Run};
-ghost use Rattle.tables.specs.Answering.{answered_expr, answered_plan};
 
 use crate::act::{Act, Answer};
 use book::opened::OpenBook;
-use plan::fault::Fault;
-use terms::node::{ExprId, PlanId};
-
-fn expr_answer(r: Result<ExprId, Fault>) -> Answer
-    ensures { answer_of result ≡ answered_expr r }
-{
-    match r {
-        Ok(e) => Answer::Made(e.0),
-        Err(f) => Answer::Refused(f),
-    }
-}
-
-fn plan_answer(r: Result<PlanId, Fault>) -> Answer
-    ensures { answer_of result ≡ answered_plan r }
-{
-    match r {
-        Ok(p) => Answer::Made(p.0),
-        Err(f) => Answer::Refused(f),
-    }
-}
 
 /// Performs one call.
 pub fn perform(book: &mut OpenBook, act: Act<'_>) -> Answer
     ensures { Answers (book_of book.old) (request_of act.entry) (answer_of result) (book_of book.new) }
 {
+    // One arm for each call: a call as a value is matched here, and only here.
     match act {
-        Act::Null => expr_answer(book.null()),
-        Act::Truth(b) => expr_answer(book.truth(b)),
-        Act::Whole(n) => expr_answer(book.whole(n)),
-        Act::Real(x) => expr_answer(book.real(x)),
-        Act::Text(bytes) => expr_answer(book.text(bytes)),
-        Act::Reference { name, qualifier } => expr_answer(book.reference(name, qualifier)),
+        Act::Null => book.null().map(|e| e.0),
+        Act::Truth(b) => book.truth(b).map(|e| e.0),
+        Act::Whole(n) => book.whole(n).map(|e| e.0),
+        Act::Real(x) => book.real(x).map(|e| e.0),
+        Act::Text(bytes) => book.text(bytes).map(|e| e.0),
+        Act::Reference { name, qualifier } => book.reference(name, qualifier).map(|e| e.0),
         Act::Alias {
             inner,
             name,
             qualifier,
-        } => expr_answer(book.alias(inner, name, qualifier)),
+        } => book.alias(inner, name, qualifier).map(|e| e.0),
         Act::Call {
             function,
             arguments,
-        } => expr_answer(book.call(function, arguments)),
-        Act::Table { qualifier, names } => plan_answer(book.table(qualifier, names)),
-        Act::Projection { input, list } => plan_answer(book.projection(input, list)),
-        Act::Filter { input, predicate } => plan_answer(book.filter(input, predicate)),
-        Act::Sort { input, keys } => plan_answer(book.sort(input, keys)),
-        Act::Limit { input, skip, count } => plan_answer(book.limit(input, skip, count)),
+        } => book.call(function, arguments).map(|e| e.0),
+        Act::Table { qualifier, names } => book.table(qualifier, names).map(|p| p.0),
+        Act::Projection { input, list } => book.projection(input, list).map(|p| p.0),
+        Act::Filter { input, predicate } => book.filter(input, predicate).map(|p| p.0),
+        Act::Sort { input, keys } => book.sort(input, keys).map(|p| p.0),
+        Act::Limit { input, skip, count } => book.limit(input, skip, count).map(|p| p.0),
         Act::Aggregate {
             input,
             groups,
             totals,
-        } => plan_answer(book.aggregate(input, groups, totals)),
+        } => book.aggregate(input, groups, totals).map(|p| p.0),
         Act::Join {
             kind,
             left,
             right,
             on,
-        } => plan_answer(book.join(kind, left, right, on)),
-        Act::SubqueryAlias { input, name } => plan_answer(book.subquery_alias(input, name)),
-        Act::Union(inputs) => plan_answer(book.union(inputs)),
+        } => book.join(kind, left, right, on).map(|p| p.0),
+        Act::SubqueryAlias { input, name } => book.subquery_alias(input, name).map(|p| p.0),
+        Act::Union(inputs) => book.union(inputs).map(|p| p.0),
         Act::Swap {
             node,
             position,
             input,
-        } => plan_answer(book.swap(node, position, input)),
+        } => book.swap(node, position, input).map(|p| p.0),
     }
 }
 
@@ -84,8 +64,9 @@ pub fn replay(book: &mut OpenBook, acts: &[Act<'_>], answers: &mut [Answer]) -> 
     ensures law { Law }
 {
     let count = acts.len().min(answers.len());
-    for i in 0..count {
-        answers[i] = perform(book, acts[i]);
+    // Not a zip with `answers.iter_mut()`: a proof knows nothing of what is written through an adapter's items.
+    for (i, act) in acts[..count].iter().enumerate() {
+        answers[i] = perform(book, *act);
     }
     count
 }

@@ -8,7 +8,7 @@ use Rattle.evaluate.proofs.seeking.may_mean.Goals as goal
 pub returns-then-is_under : goal.returns-then-is_under
 returns-then-is_under c =
     let f = stored_field (view_of c.args.terms.now).bytes in
-    c.same_bytes.ensures ∙ ap₂ (λ m n. bytes_eq m n) c.word.ensures c.word-then-is_under.ensures
+    c.eq.ensures ∙ ap₂ (λ m n. bytes_eq m n) c.word.ensures c.word-then-is_under.ensures
     ∙ sym (means-by (f c.args.reference) (f c.args.field) ∙ ap (λ b. b && bytes_eq (f c.args.reference).name (f c.args.field).name) (sym c.if-is_under.ensures))
 
 pub returns-else-is_under : goal.returns-else-is_under
