@@ -3,211 +3,196 @@ use book::opened::OpenBook;
 use std::io;
 use std::str::from_utf8;
 use tables::node::{PlanNode, PlanRecord, Run};
-use terms::node::{ExprId, ExprNode, Literal, PlanId, Qualifier, Span};
+use terms::node::{Entry, ExprId, ExprNode, Literal, PlanId, Span, StoredField};
 
-fn show_word(rt: &HostRuntime, book: &OpenBook, span: Span) -> io::Result<()> {
-    match book.word(span) {
-        Ok(bytes) => {
-            let text = from_utf8(bytes).unwrap_or("?");
-            print!(rt; "{text}")
-        }
-        Err(_) => print!(rt; "?"),
-    }
+/// Prints what stands in a book.
+#[derive(Drop)]
+struct Printer<'a, P> {
+    rt: &'a P,
+    book: &'a OpenBook,
 }
 
-fn show_column(
-    rt: &HostRuntime,
-    book: &OpenBook,
-    qualifier: Qualifier,
-    name: Span,
-) -> io::Result<()> {
-    if let Qualifier::Qualified(q) = qualifier {
-        show_word(rt, book, q)?;
-        print!(rt; ".")?;
-    }
-    show_word(rt, book, name)
-}
-
-fn show_literal(rt: &HostRuntime, book: &OpenBook, l: Literal) -> io::Result<()> {
-    match l {
-        Literal::Null => print!(rt; "null"),
-        Literal::Truth(b) => print!(rt; "{b}"),
-        Literal::Whole(n) => print!(rt; "{n}"),
-        Literal::Real(_) => print!(rt; "(real)"),
-        Literal::Text(s) => {
-            print!(rt; "'")?;
-            show_word(rt, book, s)?;
-            print!(rt; "'")
-        }
-    }
-}
-
-fn show_function(rt: &HostRuntime, book: &OpenBook, number: u8) -> io::Result<()> {
-    match book.function(number) {
-        Some(d) => show_word(rt, book, d.name),
-        None => print!(rt; "?"),
-    }
-}
-
-/// An expression, so many levels deep.
-fn show_expr(rt: &HostRuntime, book: &OpenBook, e: ExprId, levels: u32) -> io::Result<()> {
-    if levels == 0 {
-        return print!(rt; "..");
-    }
-    match book.expr(e) {
-        Err(_) => print!(rt; "?"),
-        Ok(ExprNode::Constant(l)) => show_literal(rt, book, l),
-        Ok(ExprNode::Reference { qualifier, name }) => show_column(rt, book, qualifier, name),
-        Ok(
-            ExprNode::Alias {
-                inner,
-                qualifier,
-                name,
-            },
-        ) => {
-            show_expr(rt, book, inner, levels - 1)?;
-            print!(rt; " AS ")?;
-            show_column(rt, book, qualifier, name)
-        }
-        Ok(
-            ExprNode::Call {
-                function,
-                first,
-                count,
-            },
-        ) => {
-            show_function(rt, book, function)?;
-            print!(rt; "(")?;
-            for i in 0..count {
-                if i > 0 {
-                    print!(rt; ", ")?;
-                }
-                if let Ok(argument) = book.listed(Run { first, count }, i) {
-                    show_expr(rt, book, argument, levels - 1)?;
-                }
+impl<P: Print> Printer<'_, P> {
+    fn show_word(&self, span: Span) -> io::Result<()> {
+        match self.book.word(span) {
+            Ok(bytes) => {
+                let text = from_utf8(bytes).unwrap_or("?");
+                print!(self.rt; "{text}")
             }
-            print!(rt; ")")
+            Err(_) => print!(self.rt; "?"),
         }
     }
-}
 
-fn show_list(rt: &HostRuntime, book: &OpenBook, run: Run) -> io::Result<()> {
-    for i in 0..run.count {
-        if i > 0 {
-            print!(rt; ", ")?;
+    fn show_column(&self, field: StoredField) -> io::Result<()> {
+        if let Some(qualifier) = field.qualifier {
+            self.show_word(qualifier)?;
+            print!(self.rt; ".")?;
         }
-        if let Ok(e) = book.listed(run, i) {
-            show_expr(rt, book, e, 256)?;
-        }
+        self.show_word(field.name)
     }
-    Ok(())
-}
 
-fn show_aggregate(rt: &HostRuntime, book: &OpenBook, groups: Run, totals: Run) -> io::Result<()> {
-    print!(rt; "Aggregate: groupBy=[")?;
-    show_list(rt, book, groups)?;
-    print!(rt; "], aggr=[")?;
-    show_list(rt, book, totals)?;
-    print!(rt; "]")
-}
-
-/// What a node does, without its inputs.
-fn show_kind(rt: &HostRuntime, book: &OpenBook, node: PlanNode) -> io::Result<()> {
-    match node {
-        PlanNode::Table { qualifier, .. } => {
-            print!(rt; "TableScan: ")?;
-            show_word(rt, book, qualifier)
-        }
-        PlanNode::Projection { list, .. } => {
-            print!(rt; "Projection: ")?;
-            show_list(rt, book, list)
-        }
-        PlanNode::Filter { predicate, .. } => {
-            print!(rt; "Filter: ")?;
-            show_expr(rt, book, predicate, 256)
-        }
-        PlanNode::Sort { keys, .. } => {
-            print!(rt; "Sort: ")?;
-            show_list(rt, book, keys)
-        }
-        PlanNode::Limit { skip, count, .. } => print!(rt; "Limit: skip={skip}, fetch={count}"),
-        PlanNode::Aggregate { groups, totals, .. } => show_aggregate(rt, book, groups, totals),
-        PlanNode::Join { on, .. } => {
-            print!(rt; "Join: ")?;
-            show_list(rt, book, on)
-        }
-        PlanNode::SubqueryAlias { name, .. } => {
-            print!(rt; "SubqueryAlias: ")?;
-            show_word(rt, book, name)
-        }
-        PlanNode::Union { .. } => print!(rt; "Union"),
-    }
-}
-
-fn show_fields(rt: &HostRuntime, book: &OpenBook, p: PlanId, count: u32) -> io::Result<()> {
-    for i in 0..count {
-        if i > 0 {
-            print!(rt; ", ")?;
-        }
-        if let Ok(f) = book.field(p, i) {
-            show_column(rt, book, f.qualifier, f.name)?;
-        }
-    }
-    Ok(())
-}
-
-fn show_node(
-    rt: &HostRuntime,
-    book: &OpenBook,
-    p: PlanId,
-    record: PlanRecord,
-    levels: u32,
-) -> io::Result<()> {
-    for _ in levels..64 {
-        print!(rt; "  ")?;
-    }
-    show_kind(rt, book, record.node)?;
-    print!(rt; "  [fields: ")?;
-    show_fields(rt, book, p, record.fields.count)?;
-    let number = p.0;
-    let origin = record.origin.0;
-    println!(rt; "; node {number}, origin {origin}]")
-}
-
-/// A node and what is below it, so many levels deep.
-fn show_plan(rt: &HostRuntime, book: &OpenBook, p: PlanId, levels: u32) -> io::Result<()> {
-    if levels == 0 {
-        return Ok(());
-    }
-    let record = match book.plan(p) {
-        Ok(record) => record,
-        Err(_) => return Ok(()),
-    };
-    show_node(rt, book, p, record, levels)?;
-    match record.node {
-        PlanNode::Table { .. } => Ok(()),
-        PlanNode::Projection { input, .. } => show_plan(rt, book, input, levels - 1),
-        PlanNode::Filter { input, .. } => show_plan(rt, book, input, levels - 1),
-        PlanNode::Sort { input, .. } => show_plan(rt, book, input, levels - 1),
-        PlanNode::Limit { input, .. } => show_plan(rt, book, input, levels - 1),
-        PlanNode::Aggregate { input, .. } => show_plan(rt, book, input, levels - 1),
-        PlanNode::SubqueryAlias { input, .. } => show_plan(rt, book, input, levels - 1),
-        PlanNode::Join { left, right, .. } => {
-            show_plan(rt, book, left, levels - 1)?;
-            show_plan(rt, book, right, levels - 1)
-        }
-        PlanNode::Union { inputs } => {
-            for i in 0..inputs.count {
-                if let Ok(e) = book.listed(inputs, i) {
-                    show_plan(rt, book, PlanId(e.0), levels - 1)?;
-                }
+    fn show_literal(&self, l: Literal) -> io::Result<()> {
+        match l {
+            Literal::Null => print!(self.rt; "null"),
+            Literal::Truth(b) => print!(self.rt; "{b}"),
+            Literal::Whole(n) => print!(self.rt; "{n}"),
+            Literal::Real(_) => print!(self.rt; "(real)"),
+            Literal::Text(s) => {
+                print!(self.rt; "'")?;
+                self.show_word(s)?;
+                print!(self.rt; "'")
             }
-            Ok(())
+        }
+    }
+
+    fn show_function(&self, number: u8) -> io::Result<()> {
+        match self.book.function(number) {
+            Some(d) => self.show_word(d.name),
+            None => print!(self.rt; "?"),
+        }
+    }
+
+    /// An expression, so many levels deep.
+    #[cycle(expressions)]
+    fn show_expr(&self, e: ExprId, levels: u32) -> io::Result<()> {
+        if levels == 0 {
+            return print!(self.rt; "..");
+        }
+        match self.book.expr(e) {
+            Err(_) => print!(self.rt; "?"),
+            Ok(ExprNode::Constant(l)) => self.show_literal(l),
+            Ok(ExprNode::Reference(field)) => self.show_column(field),
+            Ok(ExprNode::Alias { inner, field }) => {
+                self.show_expr(inner, levels - 1)?;
+                print!(self.rt; " AS ")?;
+                self.show_column(field)
+            }
+            Ok(
+                ExprNode::Call {
+                    function,
+                    arguments,
+                },
+            ) => {
+                self.show_function(function)?;
+                print!(self.rt; "(")?;
+                self.show_list(arguments, levels - 1)?;
+                print!(self.rt; ")")
+            }
+        }
+    }
+
+    /// The expressions of a list, so many levels deep.
+    #[cycle(expressions)]
+    fn show_list(&self, run: Run, levels: u32) -> io::Result<()> {
+        let listed = (0..run.count).filter_map(|i| self.book.listed(run, i).ok());
+        for (i, e) in listed.enumerate() {
+            if i > 0 {
+                print!(self.rt; ", ")?;
+            }
+            self.show_expr(e, levels)?;
+        }
+        Ok(())
+    }
+
+    fn show_aggregate(&self, groups: Run, totals: Run) -> io::Result<()> {
+        print!(self.rt; "Aggregate: groupBy=[")?;
+        self.show_list(groups, 256)?;
+        print!(self.rt; "], aggr=[")?;
+        self.show_list(totals, 256)?;
+        print!(self.rt; "]")
+    }
+
+    /// What a node does, without its inputs.
+    fn show_kind(&self, node: PlanNode) -> io::Result<()> {
+        match node {
+            PlanNode::Table { qualifier, .. } => {
+                print!(self.rt; "TableScan: ")?;
+                self.show_word(qualifier)
+            }
+            PlanNode::Projection { list, .. } => {
+                print!(self.rt; "Projection: ")?;
+                self.show_list(list, 256)
+            }
+            PlanNode::Filter { predicate, .. } => {
+                print!(self.rt; "Filter: ")?;
+                self.show_expr(predicate, 256)
+            }
+            PlanNode::Sort { keys, .. } => {
+                print!(self.rt; "Sort: ")?;
+                self.show_list(keys, 256)
+            }
+            PlanNode::Limit { skip, count, .. } => {
+                print!(self.rt; "Limit: skip={skip}, fetch={count}")
+            }
+            PlanNode::Aggregate { groups, totals, .. } => self.show_aggregate(groups, totals),
+            PlanNode::Join { on, .. } => {
+                print!(self.rt; "Join: ")?;
+                self.show_list(on, 256)
+            }
+            PlanNode::SubqueryAlias { name, .. } => {
+                print!(self.rt; "SubqueryAlias: ")?;
+                self.show_word(name)
+            }
+            PlanNode::Union { .. } => print!(self.rt; "Union"),
+        }
+    }
+
+    fn show_fields(&self, fields: &[StoredField]) -> io::Result<()> {
+        for (i, f) in fields.iter().enumerate() {
+            if i > 0 {
+                print!(self.rt; ", ")?;
+            }
+            self.show_column(*f)?;
+        }
+        Ok(())
+    }
+
+    fn show_node(&self, p: PlanId, record: PlanRecord, levels: u32) -> io::Result<()> {
+        for _ in levels..64 {
+            print!(self.rt; "  ")?;
+        }
+        self.show_kind(record.node)?;
+        print!(self.rt; "  [fields: ")?;
+        if let Ok(fields) = self.book.node_fields(p) {
+            self.show_fields(fields)?;
+        }
+        println!(self.rt; "; node {}, origin {}]", p.0, record.origin.0)
+    }
+
+    /// A node and what is below it, so many levels deep.
+    fn show_plan(&self, p: PlanId, levels: u32) -> io::Result<()> {
+        if levels == 0 {
+            return Ok(());
+        }
+        let Ok(record) = self.book.plan(p) else {
+            return Ok(());
+        };
+        self.show_node(p, record, levels)?;
+        match record.node {
+            PlanNode::Table { .. } => Ok(()),
+            PlanNode::Projection { input, .. }
+            | PlanNode::Filter { input, .. }
+            | PlanNode::Sort { input, .. }
+            | PlanNode::Limit { input, .. }
+            | PlanNode::Aggregate { input, .. }
+            | PlanNode::SubqueryAlias { input, .. } => self.show_plan(input, levels - 1),
+            PlanNode::Join { left, right, .. } => {
+                self.show_plan(left, levels - 1)?;
+                self.show_plan(right, levels - 1)
+            }
+            PlanNode::Union { inputs } => {
+                for entry in (0..inputs.count).filter_map(|i| self.book.entry(inputs, i).ok()) {
+                    if let Entry::Input(input) = entry {
+                        self.show_plan(input, levels - 1)?;
+                    }
+                }
+                Ok(())
+            }
         }
     }
 }
 
 /// Prints a plan; a tree has at most 64 nodes, so no more levels.
-pub fn explain(rt: &HostRuntime, book: &OpenBook, p: PlanId) -> io::Result<()> {
-    show_plan(rt, book, p, 64)
+pub fn explain(rt: &impl Print, book: &OpenBook, p: PlanId) -> io::Result<()> {
+    Printer { rt, book }.show_plan(p, 64)
 }

@@ -5,7 +5,7 @@ use book::declaration::Book;
 use book::opened::OpenBook;
 use explain::explain;
 use std::io;
-use telling::{declared, expression, node, unqualified};
+use telling::{declared, made, told};
 use terms::node::{ExprId, PlanId};
 
 mod explain;
@@ -19,7 +19,7 @@ const MISSING: u8 = 4;
 
 const GET_FIELD: u8 = 5;
 
-fn declare(rt: &HostRuntime, book: &mut Book) -> io::Result<()> {
+fn declare(rt: &impl Print, book: &mut Book) -> io::Result<()> {
     declared(
         rt,
         "0 equal, 2 arguments, rule 0, strict",
@@ -42,61 +42,58 @@ fn declare(rt: &HostRuntime, book: &mut Book) -> io::Result<()> {
     )
 }
 
+// `rt` and `book` stay two parameters here: in a struct each call would read `made(self.rt, .., self.book.limit(..))`.
 /// A hundred rows of the log.
-fn hundred_rows(rt: &HostRuntime, book: &mut OpenBook) -> io::Result<PlanId> {
-    let log = node(
+fn hundred_rows(rt: &impl Print, book: &mut OpenBook) -> anyhow::Result<PlanId> {
+    let log = made(
         rt,
         "table log (event, start)",
         book.table(b"log", b"event,start"),
     )?;
-    node(rt, "limit to 100 rows", book.limit(log, 0, 100))
+    made(rt, "limit to 100 rows", book.limit(log, 0, 100))
 }
 
 /// The list that adds 50 to the start, under the same name.
-fn later_start(rt: &HostRuntime, book: &mut OpenBook, rows: PlanId) -> io::Result<PlanId> {
-    let event = expression(
+fn later_start(rt: &impl Print, book: &mut OpenBook, rows: PlanId) -> anyhow::Result<PlanId> {
+    let event = made(
         rt,
         "reference log.event",
         book.reference(b"event", Some(b"log")),
     )?;
-    let start = expression(
+    let start = made(
         rt,
         "reference log.start",
         book.reference(b"start", Some(b"log")),
     )?;
-    let fifty = expression(rt, "whole 50", book.whole(50))?;
-    let sum = expression(rt, "call plus", book.call(PLUS, &[start, fifty]))?;
-    let later = expression(rt, "alias start", book.alias(sum, b"start", unqualified()))?;
-    node(rt, "projection", book.projection(rows, &[event, later]))
+    let fifty = made(rt, "whole 50", book.whole(50))?;
+    let sum = made(rt, "call plus", book.call(PLUS, &[start, fifty]))?;
+    let later = made(rt, "alias start", book.alias(sum, b"start", None))?;
+    made(rt, "projection", book.projection(rows, &[event, later]))
 }
 
 /// Events whose kind is a spot.
-fn spots(rt: &HostRuntime, book: &mut OpenBook, rows: PlanId) -> io::Result<PlanId> {
-    let event = expression(
-        rt,
-        "reference event",
-        book.reference(b"event", unqualified()),
-    )?;
-    let kind = expression(rt, "text kind", book.text(b"kind"))?;
-    let field = expression(rt, "call get_field", book.call(GET_FIELD, &[event, kind]))?;
-    let spot = expression(rt, "text spot", book.text(b"spot"))?;
-    let equal = expression(rt, "call equal", book.call(EQUAL, &[field, spot]))?;
-    node(rt, "filter", book.filter(rows, equal))
+fn spots(rt: &impl Print, book: &mut OpenBook, rows: PlanId) -> anyhow::Result<PlanId> {
+    let event = made(rt, "reference event", book.reference(b"event", None))?;
+    let kind = made(rt, "text kind", book.text(b"kind"))?;
+    let field = made(rt, "call get_field", book.call(GET_FIELD, &[event, kind]))?;
+    let spot = made(rt, "text spot", book.text(b"spot"))?;
+    let equal = made(rt, "call equal", book.call(EQUAL, &[field, spot]))?;
+    made(rt, "filter", book.filter(rows, equal))
 }
 
-fn refusals(rt: &HostRuntime, book: &mut OpenBook, rows: PlanId) -> io::Result<()> {
-    expression(
+fn refusals(rt: &impl Print, book: &mut OpenBook, rows: PlanId) -> anyhow::Result<()> {
+    told(
         rt,
         "reference with a comma in its name",
-        book.reference(b"event,start", unqualified()),
+        book.reference(b"event,start", None),
     )?;
-    node(
+    told(
         rt,
         "filter by an expression that is not there",
         book.filter(rows, ExprId(99)),
     )?;
-    let stop = expression(rt, "reference stop", book.reference(b"stop", unqualified()))?;
-    node(
+    let stop = made(rt, "reference stop", book.reference(b"stop", None))?;
+    told(
         rt,
         "projection of a column that is not there",
         book.projection(rows, &[stop]),
@@ -104,7 +101,7 @@ fn refusals(rt: &HostRuntime, book: &mut OpenBook, rows: PlanId) -> io::Result<(
     Ok(())
 }
 
-fn main(rt: HostRuntime) -> io::Result<()> {
+fn main(rt: HostRuntime) -> anyhow::Result<()> {
     let mut book = Book::new();
     declare(&rt, &mut book)?;
     let mut open = book.open();

@@ -1,18 +1,39 @@
 //! One line for each call: what was asked for, and what was answered.
-ghost use Rattle.std.specs.Prelude.{◌≡◌, None};
+ghost use Rattle.std.specs.Prelude.{◌≡◌, Ok, IfOk};
 
+use anyhow::anyhow;
 use plan::fault::Fault;
 use std::io;
 use terms::node::{ExprId, PlanId};
 
-fn refused(rt: &HostRuntime, f: Fault) -> io::Result<()> {
-    let question = f.question.number();
-    let stage = f.stage.number();
-    let level = f.level;
-    println!(rt; "refused: {question}, stage {stage}, level {level}")
+/// What a call makes, and a book knows by a number.
+pub trait Numbered: Copy {
+    const WORD: &'static str;
+
+    fn number(self) -> u32;
 }
 
-pub fn declared(rt: &HostRuntime, what: &str, answer: Result<(), Fault>) -> io::Result<()> {
+impl Numbered for ExprId {
+    const WORD: &'static str = "expression";
+
+    fn number(self) -> u32 {
+        self.0
+    }
+}
+
+impl Numbered for PlanId {
+    const WORD: &'static str = "node";
+
+    fn number(self) -> u32 {
+        self.0
+    }
+}
+
+fn refused(rt: &impl Print, f: Fault) -> io::Result<()> {
+    println!(rt; "refused: {f}")
+}
+
+pub fn declared(rt: &impl Print, what: &str, answer: Result<(), Fault>) -> io::Result<()> {
     print!(rt; "declare {what}: ")?;
     match answer {
         Ok(()) => println!(rt; "declared"),
@@ -20,45 +41,19 @@ pub fn declared(rt: &HostRuntime, what: &str, answer: Result<(), Fault>) -> io::
     }
 }
 
-/// The expression that was made; one that no book has, if the call was refused.
-pub fn expression(
-    rt: &HostRuntime,
-    what: &str,
-    answer: Result<ExprId, Fault>,
-) -> io::Result<ExprId> {
+/// Tells what a call was answered, whichever it was.
+pub fn told<T: Numbered>(rt: &impl Print, what: &str, answer: Result<T, Fault>) -> io::Result<()> {
     print!(rt; "{what}: ")?;
     match answer {
-        Ok(e) => {
-            let number = e.0;
-            println!(rt; "expression {number}")?;
-            Ok(e)
-        }
-        Err(f) => {
-            refused(rt, f)?;
-            Ok(ExprId(u32::MAX))
-        }
+        Ok(made) => println!(rt; "{} {}", T::WORD, made.number()),
+        Err(f) => refused(rt, f),
     }
 }
 
-/// The node that was made; one that no book has, if the call was refused.
-pub fn node(rt: &HostRuntime, what: &str, answer: Result<PlanId, Fault>) -> io::Result<PlanId> {
-    print!(rt; "{what}: ")?;
-    match answer {
-        Ok(p) => {
-            let number = p.0;
-            println!(rt; "node {number}")?;
-            Ok(p)
-        }
-        Err(f) => {
-            refused(rt, f)?;
-            Ok(PlanId(u32::MAX))
-        }
-    }
-}
-
-/// No qualifier.
-pub fn unqualified<'a>() -> Option<&'a [u8]>
-    ensures { result ≡ None }
+/// Tells what a call was answered, and gives what it made; a refusal ends the program.
+pub fn made<T: Numbered>(rt: &impl Print, what: &str, answer: Result<T, Fault>) -> anyhow::Result<T>
+    ensures { IfOk result (λ made. answer ≡ Ok made) }
 {
-    None
+    told(rt, what, answer)?;
+    answer.map_err(|_| anyhow!("refused: {what}"))
 }
