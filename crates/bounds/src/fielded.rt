@@ -1,5 +1,5 @@
 //! Questions 6 and 7: references resolve, and fields can stand together.
-use crate::answers::{TOTAL, has_counts, opened, refused_with, unqualified};
+use crate::answers::{TOTAL, has_counts, opened, refused_with};
 use std::test::Fail;
 use tables::node::Key;
 use terms::node::PlanId;
@@ -7,8 +7,8 @@ use terms::node::PlanId;
 #[test]
 fn a_reference_resolves_in_a_field_of_the_input(rt: HostRuntime) -> Result<(), Fail> {
     let mut book = opened()?;
-    let a = book.reference(b"a", unqualified())?;
-    let b = book.reference(b"b", unqualified())?;
+    let a = book.reference(b"a", None)?;
+    let b = book.reference(b"b", None)?;
     let ta = book.reference(b"a", Some(b"t"))?;
     let ua = book.reference(b"a", Some(b"u"))?;
     let inside = book.call(1, &[b])?;
@@ -27,9 +27,9 @@ fn a_reference_resolves_in_a_field_of_the_input(rt: HostRuntime) -> Result<(), F
 #[test]
 fn a_reference_without_a_qualifier_resolves_in_one_field_only(rt: HostRuntime) -> Result<(), Fail> {
     let mut book = opened()?;
-    let a = book.reference(b"a", unqualified())?;
+    let a = book.reference(b"a", None)?;
     let ta = book.reference(b"a", Some(b"t"))?;
-    let b = book.reference(b"b", unqualified())?;
+    let b = book.reference(b"b", None)?;
     let t = book.table(b"t", b"a")?;
     let u = book.table(b"u", b"a,b")?;
     assert!(rt; refused_with(book.join(0, t, u, &[a]), 6));
@@ -48,8 +48,8 @@ fn a_reference_without_a_qualifier_resolves_in_one_field_only(rt: HostRuntime) -
 fn a_projection_shows_no_name_twice(rt: HostRuntime) -> Result<(), Fail> {
     let mut book = opened()?;
     let e = book.whole(1)?;
-    let x = book.alias(e, b"x", unqualified())?;
-    let y = book.alias(e, b"y", unqualified())?;
+    let x = book.alias(e, b"x", None)?;
+    let y = book.alias(e, b"y", None)?;
     let qx = book.alias(e, b"x", Some(b"q"))?;
     let rx = book.alias(e, b"x", Some(b"r"))?;
     let t = book.table(b"t", b"a")?;
@@ -83,8 +83,8 @@ fn a_node_shows_no_field_twice(rt: HostRuntime) -> Result<(), Fail> {
 #[test]
 fn keys_and_totals_resolve_too(rt: HostRuntime) -> Result<(), Fail> {
     let mut book = opened()?;
-    let a = book.reference(b"a", unqualified())?;
-    let b = book.reference(b"b", unqualified())?;
+    let a = book.reference(b"a", None)?;
+    let b = book.reference(b"b", None)?;
     let sum_a = book.call(TOTAL, &[a])?;
     let sum_b = book.call(TOTAL, &[b])?;
     let t = book.table(b"t", b"a")?;

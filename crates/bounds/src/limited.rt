@@ -1,5 +1,5 @@
 //! Question 8: fields, trees and rendered names keep their limits.
-use crate::answers::{first, has_counts, opened, refused_with, short_names, unqualified};
+use crate::answers::{first, has_counts, opened, refused_with, short_names};
 use book::declaration::Book;
 use book::opened::OpenBook;
 use plan::fault::Fault;
@@ -32,10 +32,10 @@ fn an_expression_has_256_nodes_and_not_257(rt: HostRuntime) -> Result<(), Fail> 
     let last = book.call(1, &[before])?;
     assert_eq!(rt; last, ExprId(255));
     assert!(rt; refused_with(book.call(1, &[last]), 8));
-    assert!(rt; refused_with(book.alias(last, b"a", unqualified()), 8));
+    assert!(rt; refused_with(book.alias(last, b"a", None), 8));
     assert!(rt; refused_with(book.call(2, &[before, inner]), 8));
     assert!(rt; has_counts(&book, 256, 0));
-    assert_eq!(rt; book.alias(before, b"a", unqualified())?, ExprId(256));
+    assert_eq!(rt; book.alias(before, b"a", None)?, ExprId(256));
     Ok(())
 }
 
@@ -102,7 +102,7 @@ fn a_rendered_name_has_255_bytes_and_not_256(rt: HostRuntime) -> Result<(), Fail
     let mut open = book.open();
     let last = open.call(0, &[])?;
     let past = open.call(1, &[])?;
-    let named = open.alias(past, b"a", unqualified())?;
+    let named = open.alias(past, b"a", None)?;
     let t = open.table(b"t", b"a")?;
     assert!(rt; refused_with(open.projection(t, &[past]), 8));
     assert!(rt; refused_with(open.aggregate(t, &[last, past], &[]), 8));

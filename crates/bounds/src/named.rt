@@ -1,5 +1,5 @@
 //! Question 2: names and text literals are well formed.
-use crate::answers::{has_counts, opened, refused_with, unqualified};
+use crate::answers::{has_counts, opened, refused_with};
 use book::declaration::Book;
 use std::test::Fail;
 use terms::node::{ExprId, PlanId};
@@ -7,14 +7,14 @@ use terms::node::{ExprId, PlanId};
 #[test]
 fn a_reference_has_names_of_255_bytes_and_not_of_256(rt: HostRuntime) -> Result<(), Fail> {
     let mut book = opened()?;
-    assert!(rt; refused_with(book.reference(&[b'a'; 256], unqualified()), 2));
+    assert!(rt; refused_with(book.reference(&[b'a'; 256], None), 2));
     assert!(rt; refused_with(book.reference(b"a", Some(&[b'q'; 256])), 2));
     assert!(rt; has_counts(&book, 0, 0));
     assert_eq!(rt;
         book.reference(&[b'a'; 255], Some(&[b'q'; 255]))?,
         ExprId(0)
     );
-    assert_eq!(rt; book.reference(&[b'a'; 1], unqualified())?, ExprId(1));
+    assert_eq!(rt; book.reference(&[b'a'; 1], None)?, ExprId(1));
     Ok(())
 }
 
@@ -23,7 +23,7 @@ fn a_literal_and_an_alias_have_255_bytes_and_not_256(rt: HostRuntime) -> Result<
     let mut book = opened()?;
     assert!(rt; refused_with(book.text(&[b'a'; 256]), 2));
     let e = book.text(&[b'a'; 255])?;
-    assert!(rt; refused_with(book.alias(e, &[b'a'; 256], unqualified()), 2));
+    assert!(rt; refused_with(book.alias(e, &[b'a'; 256], None), 2));
     assert!(rt; refused_with(book.alias(e, b"a", Some(&[b'q'; 256])), 2));
     assert!(rt; has_counts(&book, 1, 0));
     assert_eq!(rt; book.alias(e, &[b'a'; 255], Some(&[b'q'; 255]))?, ExprId(1));
@@ -47,7 +47,7 @@ fn a_node_has_names_of_255_bytes_and_not_of_256(rt: HostRuntime) -> Result<(), F
 fn empty_names_are_refused(rt: HostRuntime) -> Result<(), Fail> {
     let mut book = opened()?;
     assert!(rt; refused_with(book.text(b""), 2));
-    assert!(rt; refused_with(book.reference(b"", unqualified()), 2));
+    assert!(rt; refused_with(book.reference(b"", None), 2));
     assert!(rt; refused_with(book.reference(b"a", Some(b"")), 2));
     assert!(rt; refused_with(book.table(b"", b"a"), 2));
     assert!(rt; refused_with(book.table(b"t", b""), 2));
@@ -66,7 +66,7 @@ fn a_comma_and_a_line_feed_are_refused_and_their_neighbours_are_not(
     let mut book = opened()?;
     assert!(rt; refused_with(book.text(b"a,b"), 2));
     assert!(rt; refused_with(book.text(b"a\n"), 2));
-    assert!(rt; refused_with(book.reference(b",", unqualified()), 2));
+    assert!(rt; refused_with(book.reference(b",", None), 2));
     assert!(rt; refused_with(book.reference(b"a", Some(b"\n")), 2));
     assert!(rt; refused_with(book.table(b"t,u", b"a"), 2));
     assert!(rt; refused_with(book.table(b"t", b"a,\n"), 2));
@@ -82,7 +82,7 @@ fn the_number_after_the_prefix_has_nine_digits_at_most(rt: HostRuntime) -> Resul
     assert!(rt; refused_with(book.text(b"__datafusion_extracted_1000000000"), 2));
     assert!(rt;
         refused_with(
-            book.reference(b"__datafusion_extracted_1000000000", unqualified()),
+            book.reference(b"__datafusion_extracted_1000000000", None),
             2,
         )
     );
@@ -96,7 +96,7 @@ fn the_number_after_the_prefix_has_nine_digits_at_most(rt: HostRuntime) -> Resul
     assert!(rt; has_counts(&book, 0, 0));
     assert_eq!(rt; book.text(b"__datafusion_extracted_999999999")?, ExprId(0));
     assert_eq!(rt;
-        book.reference(b"__datafusion_extracted_0000999999999", unqualified())?,
+        book.reference(b"__datafusion_extracted_0000999999999", None)?,
         ExprId(1)
     );
     assert_eq!(rt; book.text(b"__datafusion_extracted1000000000")?, ExprId(2));
@@ -115,17 +115,14 @@ fn a_prefixed_alias_has_no_qualifier(rt: HostRuntime) -> Result<(), Fail> {
     assert!(rt; refused_with(book.alias(e, b"__datafusion_extracted_7", Some(b"q")), 2));
     assert!(rt;
         refused_with(
-            book.alias(e, b"__datafusion_extracted_1000000000", unqualified()),
+            book.alias(e, b"__datafusion_extracted_1000000000", None),
             2,
         )
     );
     assert!(rt; has_counts(&book, 1, 0));
+    assert_eq!(rt; book.alias(e, b"__datafusion_extracted", None)?, ExprId(1));
     assert_eq!(rt;
-        book.alias(e, b"__datafusion_extracted", unqualified())?,
-        ExprId(1)
-    );
-    assert_eq!(rt;
-        book.alias(e, b"__datafusion_extracted_999999999", unqualified())?,
+        book.alias(e, b"__datafusion_extracted_999999999", None)?,
         ExprId(2)
     );
     assert_eq!(rt;
@@ -156,8 +153,8 @@ fn new_names_of_what_is_there_are_good(rt: HostRuntime) -> Result<(), Fail> {
     let mut book = opened()?;
     let e = book.null()?;
     let t = book.table(b"t", b"a")?;
-    assert!(rt; refused_with(book.alias(e, b"", unqualified()), 2));
-    assert!(rt; refused_with(book.alias(e, b"a,b", unqualified()), 2));
+    assert!(rt; refused_with(book.alias(e, b"", None), 2));
+    assert!(rt; refused_with(book.alias(e, b"a,b", None), 2));
     assert!(rt; refused_with(book.alias(e, b"a", Some(b"")), 2));
     assert!(rt; refused_with(book.subquery_alias(t, b""), 2));
     assert!(rt; refused_with(book.subquery_alias(t, b"s\n"), 2));

@@ -1,5 +1,5 @@
 //! The questions are asked in their order: where several are answered no, the first decides.
-use crate::answers::{TOTAL, first, has_counts, opened, refused_with, short_names, unqualified};
+use crate::answers::{TOTAL, first, has_counts, opened, refused_with, short_names};
 use book::declaration::Book;
 use std::test::Fail;
 use terms::node::{ExprId, PlanId};
@@ -9,8 +9,8 @@ fn what_is_not_there_comes_before_names_counts_and_totals(rt: HostRuntime) -> Re
     let mut book = opened()?;
     let e = book.null()?;
     let sum = book.call(TOTAL, &[e])?;
-    assert!(rt; refused_with(book.alias(ExprId(2), b"", unqualified()), 1));
-    assert!(rt; refused_with(book.alias(ExprId(u32::MAX), b"a", unqualified()), 1));
+    assert!(rt; refused_with(book.alias(ExprId(2), b"", None), 1));
+    assert!(rt; refused_with(book.alias(ExprId(u32::MAX), b"a", None), 1));
     assert!(rt; refused_with(book.call(6, &[sum; 5]), 1));
     assert!(rt; refused_with(book.subquery_alias(PlanId(0), b""), 1));
     assert!(rt; refused_with(book.subquery_alias(PlanId(u32::MAX), b"s"), 1));
@@ -23,7 +23,7 @@ fn what_is_not_there_comes_before_names_counts_and_totals(rt: HostRuntime) -> Re
 fn names_come_before_counts_and_counts_before_totals(rt: HostRuntime) -> Result<(), Fail> {
     let mut book = opened()?;
     let names = short_names();
-    let b = book.reference(b"b", unqualified())?;
+    let b = book.reference(b"b", None)?;
     let sum = book.call(TOTAL, &[b])?;
     let t = book.table(b"t", b"a")?;
     assert!(rt; refused_with(book.table(b"", &names), 2));

@@ -1,5 +1,5 @@
 //! Question 4: totals stand among the totals of an Aggregate, and nothing else does.
-use crate::answers::{TOTAL, has_counts, opened, refused_with, unqualified};
+use crate::answers::{TOTAL, has_counts, opened, refused_with};
 use std::test::Fail;
 use tables::node::Key;
 use terms::node::{ExprId, PlanId};
@@ -9,7 +9,7 @@ fn a_total_is_no_argument(rt: HostRuntime) -> Result<(), Fail> {
     let mut book = opened()?;
     let e = book.whole(1)?;
     let sum = book.call(TOTAL, &[e])?;
-    let named = book.alias(sum, b"sum", unqualified())?;
+    let named = book.alias(sum, b"sum", None)?;
     assert!(rt; refused_with(book.call(1, &[sum]), 4));
     assert!(rt; refused_with(book.call(1, &[named]), 4));
     assert!(rt; refused_with(book.call(2, &[e, sum]), 4));
@@ -24,7 +24,7 @@ fn a_total_is_in_no_other_list(rt: HostRuntime) -> Result<(), Fail> {
     let mut book = opened()?;
     let e = book.whole(1)?;
     let sum = book.call(TOTAL, &[e])?;
-    let named = book.alias(sum, b"sum", unqualified())?;
+    let named = book.alias(sum, b"sum", None)?;
     let t = book.table(b"t", b"a")?;
     let u = book.table(b"u", b"a")?;
     assert!(rt; refused_with(book.filter(t, sum), 4));
@@ -53,7 +53,7 @@ fn totals_stand_among_totals_and_groups_among_groups(rt: HostRuntime) -> Result<
     let mut book = opened()?;
     let e = book.whole(1)?;
     let sum = book.call(TOTAL, &[e])?;
-    let named = book.alias(sum, b"sum", unqualified())?;
+    let named = book.alias(sum, b"sum", None)?;
     let t = book.table(b"t", b"a")?;
     assert!(rt; refused_with(book.aggregate(t, &[sum], &[]), 4));
     assert!(rt; refused_with(book.aggregate(t, &[e, named], &[sum]), 4));

@@ -1,5 +1,5 @@
 //! Question 1: what a call names by number stands in the book.
-use crate::answers::{TOTAL, has_counts, opened, refused_with, unqualified};
+use crate::answers::{TOTAL, has_counts, opened, refused_with};
 use std::test::Fail;
 use tables::node::Key;
 use terms::node::{ExprId, PlanId};
@@ -8,11 +8,11 @@ use terms::node::{ExprId, PlanId};
 fn an_expression_takes_the_last_expression_and_none_after_it(rt: HostRuntime) -> Result<(), Fail> {
     let mut book = opened()?;
     assert_eq!(rt; book.null()?, ExprId(0));
-    assert!(rt; refused_with(book.alias(ExprId(1), b"a", unqualified()), 1));
+    assert!(rt; refused_with(book.alias(ExprId(1), b"a", None), 1));
     assert!(rt; refused_with(book.call(1, &[ExprId(1)]), 1));
     assert!(rt; refused_with(book.call(2, &[ExprId(0), ExprId(1)]), 1));
     assert!(rt; has_counts(&book, 1, 0));
-    assert_eq!(rt; book.alias(ExprId(0), b"a", unqualified())?, ExprId(1));
+    assert_eq!(rt; book.alias(ExprId(0), b"a", None)?, ExprId(1));
     assert_eq!(rt; book.call(2, &[ExprId(0), ExprId(1)])?, ExprId(2));
     Ok(())
 }

@@ -1,5 +1,5 @@
 //! Question 9: each table has room to its last place, and none after it.
-use crate::answers::{first, has_counts, opened, refused_with, short_names, unqualified};
+use crate::answers::{first, has_counts, opened, refused_with, short_names};
 use book::declaration::Book;
 use std::test::Fail;
 use tables::node::Key;
@@ -94,8 +94,8 @@ fn a_table_takes_its_qualifier_and_its_names_with_commas(rt: HostRuntime) -> Res
     assert!(rt; has_counts(&book, 64, 0));
     let t = book.table(b"t", first(&names, 63))?;
     assert!(rt; refused_with(book.subquery_alias(t, b"s"), 9));
-    assert!(rt; refused_with(book.alias(ExprId(0), b"a", unqualified()), 9));
-    assert!(rt; refused_with(book.reference(b"a", unqualified()), 9));
+    assert!(rt; refused_with(book.alias(ExprId(0), b"a", None), 9));
+    assert!(rt; refused_with(book.reference(b"a", None), 9));
     assert!(rt; has_counts(&book, 64, 1));
     assert_eq!(rt; book.limit(t, 0, 1)?, PlanId(1));
     Ok(())
@@ -107,7 +107,7 @@ fn a_projection_takes_its_rendered_names(rt: HostRuntime) -> Result<(), Fail> {
     for _ in 0..64 {
         let _ = book.text(&[b'a'; 255])?;
     }
-    let a = book.reference(b"a", unqualified())?;
+    let a = book.reference(b"a", None)?;
     let five = book.whole(-1234)?;
     let four = book.whole(1234)?;
     let one = book.whole(1)?;
