@@ -1,6 +1,6 @@
 -- One turn of a loop over a list of which each element is mapped: any, every, count and sum.
 use Rattle.std.proofs.Common.{◌≡◌, ℕ, ◌+◌, ◌<◌, ◌≤◌, Bool, true, false, List, [], ◌∷◌, map, length, get_or, take, drop, count_by, sym, ap, ◌∙◌, arith}
-use Rattle.std.proofs.lemmas.List.{at_drop_more, at_drop_all, get_or-map, length-map, take_all}
+use Rattle.std.proofs.lemmas.List.{at_drop_more, at_drop_all, get_or-map, length-map}
 use Rattle.std.proofs.lemmas.List.Sums.{count_by_more_yes, count_by_more_no}
 
 -- what is left of a mapped list, one turn on
@@ -20,9 +20,6 @@ module _ {X Y : Type 0} (p : Y → Bool) (f : X → Y) (xs : List X) (i : ℕ) (
   pub counted-no : (n m : ℕ) → n ≡ count_by p (take i (map f xs)) → p (f (get_or xs i d)) ≡ false → m ≡ n → m ≡ count_by p (take (i + 1) (map f xs))
   counted-no n m h y e =
       e ∙ h ∙ sym (count_by_more_no p (map f xs) i (f d) (omega (arith, length-map xs f)) (ap p (get_or-map f xs i d (f d) lt) ∙ y))
-
-pub counted-all : {X Y : Type 0} (p : Y → Bool) (f : X → Y) (xs : List X) (i n : ℕ) → length xs ≤ i → n ≡ count_by p (take i (map f xs)) → n ≡ count_by p (map f xs)
-counted-all p f xs i n le h = h ∙ ap (count_by p) (take_all i (map f xs) (omega (arith, length-map xs f)))
 
 -- the same where a list is mapped twice
 pub twice-step : {X Y W Z : Type 0} (F : List W → Z) (f : Y → W) (g : X → Y) (xs : List X) (i : ℕ) (d : X) → i < length xs → F (drop i (map f (map g xs))) ≡ F (f (g (get_or xs i d)) ∷ drop (i + 1) (map f (map g xs)))
