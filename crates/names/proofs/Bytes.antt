@@ -3,7 +3,7 @@ use Rattle.std.proofs.Common.{◌≡◌, ℕ, ◌+◌, ◌-◌, ◌*◌, ◌≤�
 use Rattle.std.specs.Cmp.Lexicographic.{pointwise, bytes_decides}
 use Rattle.std.specs.Str.{bytes_eq}
 use Rattle.std.specs.List.{list_all}
-use Rattle.std.specs.Option.{MatchOption}
+use Rattle.std.specs.Option.{MatchOption, unwrap_or}
 use Rattle.std.proofs.lemmas.Slice.Eq.{bytes_eq-Decides}
 use Rattle.std.proofs.lemmas.List.{drop_all}
 use Rattle.std.proofs.lemmas.List.Recursion.{same_from_clauses}
@@ -32,19 +32,17 @@ capped : (m n : ℕ) (cs : List ℕ) → min (read_on (min n m) cs) m ≡ min (r
 capped m n cs =
     ⊎_elim (λ l. omega (arith, grows n cs, grows (min n m) cs)) (λ l. ap (λ k. min (read_on k cs) m) (omega arith)) (cases_lt m n)
 
--- the number that digits write after those of n, capped at m; 0 where there is anything else
-abbrev pub read_capped : ℕ → ℕ → List ℕ → ℕ
-read_capped m n cs = min (cond (digits cs) (read_on n cs) 0) m
+-- the number that digits write after those of n, capped at m; none where there is anything else
+abbrev pub read_capped : ℕ → ℕ → List ℕ → Option ℕ
+read_capped m n cs = cond (digits cs) (Some (min (read_on n cs) m)) None
 
 pub read_digit : (m n c : ℕ) (cs : List ℕ) → digit c ≡ true → read_capped m n (c ∷ cs) ≡ read_capped m (min (n * 10 + (c - 48)) m) cs
-read_digit m n c cs e = ap (λ b. min (cond (b && digits cs) (read_on (n * 10 + (c - 48)) cs) 0) m) e ∙ go (digits cs)
-  where
-    go : (b : Bool) → min (cond b (read_on (n * 10 + (c - 48)) cs) 0) m ≡ min (cond b (read_on (min (n * 10 + (c - 48)) m) cs) 0) m
-    go true = sym (capped m (n * 10 + (c - 48)) cs)
-    go false = refl
+read_digit m n c cs e =
+    ap (λ b. cond (b && digits cs) (Some (min (read_on (n * 10 + (c - 48)) cs) m)) None) e
+    ∙ ap (λ k. cond (digits cs) (Some k) None) (sym (capped m (n * 10 + (c - 48)) cs))
 
-pub read_other : (m n c : ℕ) (cs : List ℕ) → digit c ≡ false → read_capped m n (c ∷ cs) ≡ 0
-read_other m n c cs e = ap (λ b. min (cond (b && digits cs) (read_on (n * 10 + (c - 48)) cs) 0) m) e ∙ omega arith
+pub read_other : (m n c : ℕ) (cs : List ℕ) → digit c ≡ false → read_capped m n (c ∷ cs) ≡ None
+read_other m n c cs e = ap (λ b. cond (b && digits cs) (Some (min (read_on (n * 10 + (c - 48)) cs) m)) None) e
 
 -- no byte after the prefix writes 0, as no number does
 number-split : (t : Bool) (n : List ℕ) → (t ≡ false → drop 23 n ≡ []) → cond (t && digits (drop 23 n)) (read_on 0 (drop 23 n)) 0 ≡ cond (digits (drop 23 n)) (read_on 0 (drop 23 n)) 0
@@ -59,12 +57,21 @@ number-there n e =
 pub number-none : (n : List ℕ) → bytes_eq (take 23 n) (prefix ++ 95 ∷ []) ≡ false → number_of n ≡ 0
 number-none n e = ap (λ b. cond (b && (ltb 23 (length n) && digits (drop 23 n))) (read_on 0 (drop 23 n)) 0) e
 
+-- what was read, or 0
+read-or : (m n : ℕ) (cs : List ℕ) → unwrap_or (read_capped m n cs) 0 ≡ min (cond (digits cs) (read_on n cs) 0) m
+read-or m n cs = go (digits cs)
+  where
+    go : (b : Bool) → unwrap_or (cond b (Some (min (read_on n cs) m)) None) 0 ≡ min (cond b (read_on n cs) 0) m
+    go true = refl
+    go false = omega arith
+
 -- the number of a name, where what follows the prefix and `_` is found first
-pub number-found : (n : List ℕ) (m r : ℕ) (o : Option (Bor (List ℕ)))
+pub number-found : (n : List ℕ) (m : ℕ) (q : Option ℕ) (o : Option (Bor (List ℕ)))
     → MatchOption o (pointwise nat_eq (take 23 n) (prefix ++ 95 ∷ []) ≡ false) (λ x. (pointwise nat_eq (take 23 n) (prefix ++ 95 ∷ []) ≡ true) × (x.now ≡ drop 23 n) × (length x.now + 23 ≡ length n))
-    → MatchOption o (r ≡ 0) (λ x. r ≡ read_capped m 0 x.now) → r ≡ min (number_of n) m
-number-found n m r None f e =
+    → MatchOption o (q ≡ None) (λ x. q ≡ read_capped m 0 x.now) → unwrap_or q 0 ≡ min (number_of n) m
+number-found n m q None f e =
     let z : 0 ≡ min 0 m = omega arith in
-    e ∙ z ∙ ap (λ k. min k m) (sym (number-none n (sym (matched (take 23 n) (prefix ++ 95 ∷ []) false (sym f)))))
-number-found n m r (Some x) f e =
-    e ∙ ap (read_capped m 0) f.1 ∙ ap (λ k. min k m) (sym (number-there n (sym (matched (take 23 n) (prefix ++ 95 ∷ []) true (sym f.0)))))
+    ap (λ k. unwrap_or k 0) e ∙ z ∙ ap (λ k. min k m) (sym (number-none n (sym (matched (take 23 n) (prefix ++ 95 ∷ []) false (sym f)))))
+number-found n m q (Some x) f e =
+    ap (λ k. unwrap_or k 0) (e ∙ ap (read_capped m 0) f.1) ∙ read-or m 0 (drop 23 n)
+    ∙ ap (λ k. min k m) (sym (number-there n (sym (matched (take 23 n) (prefix ++ 95 ∷ []) true (sym f.0)))))

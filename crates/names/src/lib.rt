@@ -1,7 +1,7 @@
 //! Names as bytes: which are well formed, which are generated, and how numbers are written into them.
 #![tactic(auto)]
 
-ghost use Rattle.std.specs.Prelude.{◌≡◌, ◌+◌, ◌≤◌, min, ◌++◌, length, if◌then◌else◌};
+ghost use Rattle.std.specs.Prelude.{◌≡◌, ◌+◌, ◌≤◌, min, ◌++◌, length, Some, None, if◌then◌else◌};
 ghost use Rattle.plan.specs.Names.{digits, good_name, number_of, plain, prefixed, read_on};
 ghost use Rattle.plan.specs.Rendering.{hexadecimal};
 ghost use Rattle.std.specs.Fmt.{signed_decimal};
@@ -29,20 +29,20 @@ pub fn is_prefixed(name: &[u8]) -> bool
 }
 
 /// The number that decimal digits write, if there is nothing else, and `NUMBER_CAP` where it is larger.
-fn read_digits(text: &[u8]) -> u32
-    ensures { result ≡ min (if digits text.now then read_on 0 text.now else 0) NUMBER_CAP }
+fn read_digits(text: &[u8]) -> Option<u32>
+    ensures { result ≡ if digits text.now then Some (min (read_on 0 text.now) NUMBER_CAP) else None }
 {
     let mut n: u32 = 0;
     for c in text {
         if !c.is_ascii_digit() {
-            return 0;
+            return None;
         }
         n = n
             .saturating_mul(10)
             .saturating_add(u32::from(*c - b'0'))
             .min(NUMBER_CAP);
     }
-    n
+    Some(n)
 }
 
 /// The number of a generated alias: the digits after the prefix and `_`, if nothing else follows.
@@ -51,7 +51,8 @@ pub fn number_of(name: &[u8]) -> u32
     ensures { result ≡ min (number_of name.now) NUMBER_CAP }
 {
     name.strip_prefix(b"__datafusion_extracted_")
-        .map_or(0, read_digits)
+        .and_then(read_digits)
+        .unwrap_or(0)
 }
 
 /// Whether a name is well formed: 1 to 255 bytes, no comma, no line feed and no number of more than nine digits.

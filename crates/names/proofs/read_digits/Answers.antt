@@ -1,4 +1,4 @@
-use Rattle.std.proofs.Common.{◌≡◌, ◌+◌, ◌-◌, ◌*◌, min, drop, get_or, sym, ap, ◌∙◌, arith}
+use Rattle.std.proofs.Common.{◌≡◌, ◌+◌, ◌-◌, ◌*◌, min, Some, drop, get_or, sym, ap, ◌∙◌, arith}
 use Rattle.std.proofs.lemmas.List.{at_drop_more, at_drop_all}
 use Rattle.names.specs.declared.TheConstants.{NUMBER_CAP}
 use Rattle.names.proofs.Bytes.{read_capped, read_digit, read_other}
@@ -25,4 +25,4 @@ loop-c-preserved c =
 pub returns : goal.returns
 returns c =
     let e : min c.loop-c.n NUMBER_CAP ≡ c.loop-c.n = omega arith in
-    sym (c.loop-c.invariant.1 ∙ at_drop_all (read_capped NUMBER_CAP c.loop-c.n) c.args.text.now c.loop-c.c-index c.loop-c-test.false ∙ e)
+    sym (c.loop-c.invariant.1 ∙ at_drop_all (read_capped NUMBER_CAP c.loop-c.n) c.args.text.now c.loop-c.c-index c.loop-c-test.false ∙ ap (λ k. Some k) e)
