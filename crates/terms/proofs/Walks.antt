@@ -54,9 +54,15 @@ pub any-mapped : {X Y : Type 0} (p : Y → Bool) (f : X → Y) (xs : List X) →
 any-mapped p f [] = refl
 any-mapped p f (x ∷ xs) = ap (λ b. p (f x) || b) (any-mapped p f xs)
 
-pub any-moved : {X Y : Type 0} (p : Y → Bool) (f : X → Y) (xs : List X) → any (λ x. p (f x)) xs ≡ any p (map f xs)
-any-moved p f [] = refl
-any-moved p f (x ∷ xs) = ap (λ b. p (f x) || b) (any-moved p f xs)
+-- the same where a list is mapped twice
+module _ {X Y Z : Type 0} (p : Z → Bool) (g : Y → Z) (f : X → Y) where
+  pub every-twice : (xs : List X) → list_all (λ x. p (g (f x))) xs ≡ every p (map g (map f xs))
+  every-twice [] = refl
+  every-twice (x ∷ xs) = ap (λ b. p (g (f x)) && b) (every-twice xs)
+
+  pub any-twice : (xs : List X) → list_any (λ x. p (g (f x))) xs ≡ any p (map g (map f xs))
+  any-twice [] = refl
+  any-twice (x ∷ xs) = ap (λ b. p (g (f x)) || b) (any-twice xs)
 
 -- a call's references are those of its arguments
 pub resolved-arguments : (fs : List Field) (ts : List Expr) → every (resolves fs) (references_of_all (arguments ts)) ≡ every (resolved fs) ts

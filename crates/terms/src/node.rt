@@ -3,14 +3,19 @@ pub use names::parts::Span;
 use plan::code::{Direction, Rule};
 
 /// An expression, by its number.
+// A number, since outside a book expressions are known by number. That it is there is a clause of each function: a number
+// says nothing of the tables, which grow.
 #[derive(Clone, Copy, PartialEq, Eq, Debug)]
 pub struct ExprId(pub u32);
 
 /// A node of a plan, by its number.
+// As `ExprId`; a type of its own, so that neither is taken for the other.
 #[derive(Clone, Copy, PartialEq, Eq, Debug)]
 pub struct PlanId(pub u32);
 
 /// A part of a table: the list table, or the field table.
+// Not a `Span`: it counts entries, not bytes. A start and a length, since a table cannot lend a slice of itself to its own
+// records; so that it is inside is a clause.
 #[derive(Clone, Copy, PartialEq, Eq, Debug)]
 pub struct Run {
     pub first: u32,
@@ -18,6 +23,7 @@ pub struct Run {
 }
 
 /// A constant.
+// Not `value`'s `Value`: a literal's text is always the book's.
 #[derive(Clone, Copy)]
 pub enum Literal {
     Null,
@@ -45,7 +51,7 @@ pub struct ExprRecord {
 }
 
 /// One entry of a list.
-#[derive(Clone, Copy)]
+#[derive(Clone, Copy, PartialEq, Eq, Debug)]
 pub enum Entry {
     Expression(ExprId),
     Key(ExprId, Direction),
@@ -53,6 +59,8 @@ pub enum Entry {
 }
 
 /// A column: its name, and of which relation it is, if that is said.
+// No `==`: fields are equal by the bytes that their spans name, which `same_field` compares. That they are inside is a
+// clause of each function: it is a fact about a text, which the field does not hold.
 #[derive(Clone, Copy)]
 pub struct StoredField {
     pub qualifier: Option<Span>,
@@ -60,6 +68,7 @@ pub struct StoredField {
 }
 
 /// A declared function.
+// No `==`, as for a field: its name is equal to another by its bytes.
 #[derive(Clone, Copy)]
 pub struct Declaration {
     pub name: Span,

@@ -13,16 +13,6 @@ use crate::listed::Listed;
 use crate::node::{Entry, ExprId, ExprNode, ExprRecord, Literal, Run, Span};
 use table::table::Table;
 
-/// Adds what items are stored as.
-fn push_entries<T: Listed>(entries: &mut Table<Entry, 2048>, items: &[T])
-    requires { length entries.old + length items.now ≤ 2048 }
-    ensures { entries.new ≡ entries.old ++ map T.entry items.now }
-{
-    for item in items {
-        entries.push((*item).entry());
-    }
-}
-
 impl Terms {
     /// No expression yet.
     pub fn open(lexicon: Lexicon) -> Terms
@@ -31,6 +21,7 @@ impl Terms {
         ensures bytes { (view_of result).bytes ≡ text_of lexicon }
         ensures entries { (view_of result).entries ≡ [] }
     {
+        // Fillers as a table takes them; a `Default` of records and entries would be a made-up one that all can see.
         let filler = ExprRecord {
             node: ExprNode::Constant(Literal::Null),
             size: 1,
@@ -61,7 +52,7 @@ impl Terms {
         ensures count { result.count ≡ length items.now }
     {
         let first = self.entries.len() as u32;
-        push_entries(&mut self.entries, items);
+        self.entries.push_each(items, T::entry);
         Run {
             first,
             count: items.len() as u32,

@@ -79,6 +79,7 @@ impl Terms {
     }
 
     /// Whether one of some expressions is a total.
+    // A slice of numbers from a caller: that all are there is a clause, as for one number.
     pub fn any_total(&self, ids: &[ExprId]) -> bool
         requires { AllPresent self.now ids.now }
         ensures { result ≡ any (is_total (view_of self.now).functions) (exprs_in (view_of self.now).trees (numbers_of ids.now)) }

@@ -8,13 +8,14 @@ ghost use Rattle.terms.specs.Spans.{literal_at, literal_in, stored_field, stored
 ghost use Rattle.terms.specs.Views.{count, tree_of, view_of};
 
 use super::Terms;
+use crate::listed::Listed;
 use crate::node::{ExprId, ExprNode, Literal, StoredField};
 use names::{signed_len, write_hexadecimal, write_signed};
 use std::num::f64_to_bits_with_nan;
 use table::table::Table;
 
 /// Parts an argument from the one before it, if there is one.
-fn part(i: u32, out: &mut Table<u8, 131072>)
+fn part(i: usize, out: &mut Table<u8, 131072>)
     requires { length out.old + length (gap i) ≤ 131072 }
     ensures { out.new ≡ out.old ++ gap i }
 {
@@ -23,6 +24,7 @@ fn part(i: u32, out: &mut Table<u8, 131072>)
     }
 }
 
+// Not `Display`: a name needs the tables, and is promised byte by byte.
 impl Terms {
     /// The name of a function; nothing where none is declared.
     pub fn name_of(&self, number: u8) -> &[u8]
@@ -76,10 +78,9 @@ impl Terms {
             } => {
                 out.extend(self.name_of(function));
                 out.push(b'(');
-                // By index, which says whether a blank stands before; with `split_first` the call would stand twice.
-                for i in 0..arguments.count {
+                for (i, entry) in self.entries(arguments).iter().enumerate() {
                     part(i, out);
-                    self.render(self.listed(arguments, i), out);
+                    self.render(ExprId::read(*entry), out);
                 }
                 out.push(b')');
             }

@@ -28,7 +28,7 @@ impl Terms {
     }
 
     /// How many fields have a name.
-    // A loop with an index is the form in which the project counts the fields that have a name.
+    // A loop with an index: a rule of the project, which counts the fields of a name in this form.
     fn count_named(&self, fields: &[StoredField], name: Span) -> usize
         requires stored { every (stored_in (view_of self.now).bytes) fields.now ≡ true }
         requires name { span_in (view_of self.now).bytes name ≡ true }
@@ -86,6 +86,8 @@ impl Terms {
             ExprNode::Alias { inner, .. } => self.resolved(left, right, inner),
             ExprNode::Call { arguments, .. } => {
                 let listed = self.entries(arguments);
+                // A `for`: in `all` the function calls itself inside a closure, so that the proof has to say what falls
+                // for both, and what the closure asks at each turn.
                 for entry in listed {
                     if !self.resolved(left, right, ExprId::read(*entry)) {
                         return false;

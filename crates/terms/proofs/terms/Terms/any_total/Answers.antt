@@ -4,8 +4,8 @@ use Rattle.std.proofs.lemmas.Iterator.{YieldsList-from_slice}
 use Rattle.std.proofs.lemmas.Iterator.Search.{any_from_yields_List}
 use Rattle.plan.specs.Functions.{is_total}
 use Rattle.plan.specs.Model.{expr_in}
-use Rattle.terms.specs.Views.{count, numbers_of, view_of}
-use Rattle.terms.proofs.Walks.{any-mapped, any-moved, one_below}
+use Rattle.terms.specs.Views.{count, view_of}
+use Rattle.terms.proofs.Walks.{any-twice, one_below}
 use Rattle.terms.proofs.terms.Terms.any_total.Goals as goal
 
 pub any-requires-clause-callable : goal.any-requires-clause-callable
@@ -20,4 +20,4 @@ returns c =
     let p = is_total v.functions in
     let ids = c.args.ids.now in
     any_from_yields_List (λ e. p (expr_in v.trees e.0)) _ _ _ c.any.ensures.ran (YieldsList-from_slice ids cc) (λ x b q k. search rules)
-    ∙ any-mapped (λ n. p (expr_in v.trees n)) (λ e. e.0) ids ∙ any-moved p (expr_in v.trees) (numbers_of ids)
+    ∙ any-twice p (expr_in v.trees) (λ e. e.0) ids
