@@ -3,12 +3,10 @@
 --     draft_field v o g d, draft_in v o g d      the field that d stands for; whether its words are where it says
 --     as_stored, as_owned, as_bare, as_column      a stored field as it is, under the owner, with no qualifier; a lent name under the owner
 --     field_bytes v d, draft_bytes v ds      how many bytes a rendered name takes; all of them
---     Pushed R xs ds ds'      what R makes of each of the items xs was added to the drafts ds
 --     FieldFor v e d, FieldsFor v es ds      d is a draft of the field of the expression e; the same of lists
 --     LentIn text l      the lent names stand in the text where l says
 --     WordAs, StoredAs, StoredAll      what storing a word, a field, or a list of fields leaves
-use Rattle.std.specs.Prelude.{◌≡◌, ℕ, Bool, true, ◌&&◌, List, [], ◌∷◌, ◌++◌, map, length, sum_by, Some, None, Option, nat_lt}
-use Rattle.std.specs.List.{FoldsTo}
+use Rattle.std.specs.Prelude.{◌≡◌, ℕ, Bool, true, ◌&&◌, List, [], ◌++◌, map, length, sum_by, Some, None, Option, nat_lt}
 use Rattle.plan.specs.Names.{Name}
 use Rattle.plan.specs.Terms.{Field, Qualifier, Expr}
 use Rattle.plan.specs.Terms.Qualifier.{unqualified, qualified}
@@ -93,10 +91,6 @@ pub record FieldFor (v : View) (e : Expr) (d : DraftField) : Type 0 where
   pub field : (o g : List ℕ) → draft_field v o g d ≡ field_of v.functions e
   pub inside : (o g : List ℕ) → draft_in v o g d ≡ true
   pub bytes : field_bytes v d ≡ rendered_bytes v.functions e
-
--- what R makes of each of the items xs was added to a list, in order
-abbrev pub Pushed : {X : Type 0} → (X → DraftField → Type 0) → List X → List DraftField → List DraftField → Type 0
-Pushed R xs before after = FoldsTo (λ ds x ds'. (d : DraftField) × R x d × (ds' ≡ ds ++ d ∷ [])) before xs after
 
 -- the fields of some expressions, added to a list
 pub record FieldsFor (v : View) (es : List Expr) (before after : List DraftField) : Type 0 where

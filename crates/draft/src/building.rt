@@ -1,6 +1,6 @@
 //! How a draft grows.
-ghost use Rattle.std.specs.Prelude.{◌≡◌, ◌+◌, ◌≤◌, true, ◌++◌, map, length, All};
-ghost use Rattle.draft.specs.Drafts.{FieldsFor, Pushed, as_bare, as_column, as_owned, as_stored};
+ghost use Rattle.std.specs.Prelude.{◌≡◌, ◌+◌, ◌≤◌, true, ◌++◌, map, length};
+ghost use Rattle.draft.specs.Drafts.{FieldsFor, as_bare, as_column, as_owned, as_stored};
 ghost use Rattle.plan.specs.Calls.{all_below};
 ghost use Rattle.plan.specs.Model.{exprs_in};
 ghost use Rattle.terms.specs.Views.{count, numbers_of, view_of};
@@ -11,27 +11,12 @@ use table::table::Table;
 use terms::node::{ExprId, Span, StoredField};
 use terms::terms::Terms;
 
-/// Adds what `drafted` makes of each item.
-fn push_each<T: Copy, F: Fn(T) -> DraftField>(
-    out: &mut Table<DraftField, 128>,
-    items: &[T],
-    drafted: F,
-)
-    requires callable { All (F.pre drafted) items.now }
-    requires room { length out.old + length items.now ≤ 128 }
-    ensures { Pushed (F.post drafted) items.now out.old out.new }
-{
-    for item in items {
-        out.push(drafted(*item));
-    }
-}
-
 /// Adds stored fields as they are.
 pub fn push_stored(out: &mut Table<DraftField, 128>, fields: &[StoredField])
     requires { length out.old + length fields.now ≤ 128 }
     ensures { out.new ≡ out.old ++ map as_stored fields.now }
 {
-    push_each(out, fields, as_stored);
+    out.push_each(fields, as_stored);
 }
 
 /// Adds stored fields under the lent owner.
@@ -39,8 +24,7 @@ pub fn push_owned(out: &mut Table<DraftField, 128>, fields: &[StoredField])
     requires { length out.old + length fields.now ≤ 128 }
     ensures { out.new ≡ out.old ++ map as_owned fields.now }
 {
-    push_each(
-        out,
+    out.push_each(
         fields,
         |column| DraftField {
             qualifier: Some(Relation::OfOwner),
@@ -54,8 +38,7 @@ pub fn push_bare(out: &mut Table<DraftField, 128>, fields: &[StoredField])
     requires { length out.old + length fields.now ≤ 128 }
     ensures { out.new ≡ out.old ++ map as_bare fields.now }
 {
-    push_each(
-        out,
+    out.push_each(
         fields,
         |field| DraftField {
             qualifier: None,
@@ -69,8 +52,7 @@ pub fn push_columns(out: &mut Table<DraftField, 128>, pieces: &[Span])
     requires { length out.old + length pieces.now ≤ 128 }
     ensures { out.new ≡ out.old ++ map as_column pieces.now }
 {
-    push_each(
-        out,
+    out.push_each(
         pieces,
         |piece| DraftField {
             qualifier: Some(Relation::OfOwner),
@@ -85,5 +67,5 @@ pub fn push_expressions(terms: &Terms, out: &mut Table<DraftField, 128>, ids: &[
     requires room { length out.old + length ids.now ≤ 128 }
     ensures { FieldsFor (view_of terms.now) (exprs_in (view_of terms.now).trees (numbers_of ids.now)) out.old out.new }
 {
-    push_each(out, ids, |id| field_of(terms, id));
+    out.push_each(ids, |id| field_of(terms, id));
 }

@@ -104,6 +104,7 @@ impl Source<'_> {
         requires others { every (has_field self.now) others.now ≡ true }
         ensures { result ≡ any (clash (field_from self.now field)) (map (field_from self.now) others.now) }
     {
+        // A `for`: in `any` the closure writes the buffers, and what it asks and what it answers stay open.
         for other in others {
             if self.clashes(field, *other, buffers) {
                 return true;
@@ -121,6 +122,7 @@ impl Source<'_> {
             left: Table::new(0),
             right: Table::new(0),
         };
+        // Each field against those after it, which `split_first` gives together.
         let mut rest = draft;
         while let Some((field, others)) = rest.split_first() {
             if self.clashes_with(*field, others, &mut buffers) {

@@ -31,10 +31,8 @@ pub fn field_of(terms: &Terms, e: ExprId) -> DraftField
         name: Word::Rendered(e),
     };
     match terms.node(e) {
-        ExprNode::Constant(_) => rendered,
-        ExprNode::Reference(field) => as_stored(field),
-        ExprNode::Alias { field, .. } => as_stored(field),
-        ExprNode::Call { .. } => rendered,
+        ExprNode::Constant(_) | ExprNode::Call { .. } => rendered,
+        ExprNode::Reference(field) | ExprNode::Alias { field, .. } => as_stored(field),
     }
 }
 
@@ -55,12 +53,7 @@ pub fn has_short_names(terms: &Terms, ids: &[ExprId]) -> bool
     requires { all_below (count terms.now) (numbers_of ids.now) ≡ true }
     ensures { result ≡ every (short_name (view_of terms.now).functions) (exprs_in (view_of terms.now).trees (numbers_of ids.now)) }
 {
-    for id in ids {
-        if rendered_len(terms, *id) > 255 {
-            return false;
-        }
-    }
-    true
+    ids.iter().all(|id| rendered_len(terms, *id) <= 255)
 }
 
 /// How many bytes the rendered names of some expressions take together.
@@ -70,6 +63,7 @@ pub fn rendered_bytes(terms: &Terms, ids: &[ExprId]) -> usize
     ensures value { result ≡ sum_by (rendered_bytes (view_of terms.now).functions) (exprs_in (view_of terms.now).trees (numbers_of ids.now)) }
     ensures bound { result ≤ 8372224 }
 {
+    // A `for`: with `map` and `sum`, what each call asks, the bound and the value stay open.
     let mut total: usize = 0;
     for id in ids {
         total += rendered_len(terms, *id) as usize;

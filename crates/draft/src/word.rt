@@ -15,6 +15,7 @@ pub enum Word {
 }
 
 /// Which relation a column is of, by where its name is: a part of the book's text, or the lent owner.
+// Not an `Option`: the owner is a relation that is said, and `None` beside it stands for none.
 #[derive(Clone, Copy)]
 pub enum Relation {
     Of(Span),
@@ -22,6 +23,7 @@ pub enum Relation {
 }
 
 /// A column that is not stored yet.
+// Not one generic with `StoredField`: two fields, and each clause would name both parameters. No `==`, as there.
 #[derive(Clone, Copy)]
 pub struct DraftField {
     pub qualifier: Option<Relation>,

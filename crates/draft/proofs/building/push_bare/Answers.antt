@@ -1,6 +1,6 @@
 use Rattle.std.proofs.Common.{rules}
 use Rattle.draft.specs.Drafts.{as_bare}
-use Rattle.draft.proofs.Growing.{pushed-map}
+use Rattle.table.proofs.Pushes.{pushed-map}
 use Rattle.draft.proofs.building.push_bare.Goals as goal
 
 pub returns : goal.returns

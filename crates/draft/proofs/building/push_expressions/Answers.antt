@@ -5,8 +5,8 @@ use Rattle.terms.proofs.Walks.{one_below}
 use Rattle.draft.proofs.Growing.{pushed-fields}
 use Rattle.draft.proofs.building.push_expressions.Goals as goal
 
-pub push_each-requires-clause-callable : goal.push_each-requires-clause-callable
-push_each-requires-clause-callable c =
+pub push_each-requires : goal.push_each-requires
+push_each-requires c =
     let below = λ (k : ℕ) (d : ExprId) (lt : k < length c.args.ids.now). one_below (count c.args.terms.now) c.args.ids.now k d lt c.requires.present in
     search (rules, below)
 
