@@ -11,6 +11,7 @@ use table::table::Table;
 use terms::node::{ExprId, Span, StoredField};
 use terms::terms::Terms;
 
+// Room is a clause of each: it is a fact of the table and the items together.
 /// Adds stored fields as they are.
 pub fn push_stored(out: &mut Table<DraftField, 128>, fields: &[StoredField])
     requires { length out.old + length fields.now ≤ 128 }

@@ -48,6 +48,7 @@ fn rendered_len(terms: &Terms, e: ExprId) -> u32
     }
 }
 
+// Numbers from a caller: that all are there is a clause, as in `terms`.
 /// Whether each field of some expressions that takes its name by rendering has at most 255 bytes.
 pub fn has_short_names(terms: &Terms, ids: &[ExprId]) -> bool
     requires { all_below (count terms.now) (numbers_of ids.now) ≡ true }

@@ -38,6 +38,7 @@ pub fn split_names(text: &[u8], out: &mut Table<Span, 64>)
     ensures pieces { map (word text.now) out.new ≡ parts text.now }
     ensures inside { every (span_in text.now) out.new ≡ true }
 {
+    // A `for`: `split` does not say where its parts stand.
     let mut start = 0;
     for part in text.split(|c| *c == b',') {
         out.push(Span {

@@ -24,7 +24,8 @@ fn part(i: usize, out: &mut Table<u8, 131072>)
     }
 }
 
-// Not `Display`: a name needs the tables, and is promised byte by byte.
+// Not `Display`: a name needs the tables, and is promised byte by byte. One arm for each kind: the matches say what the
+// kinds mean.
 impl Terms {
     /// The name of a function; nothing where none is declared.
     pub fn name_of(&self, number: u8) -> &[u8]
