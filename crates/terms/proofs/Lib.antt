@@ -6,3 +6,4 @@ pub mod Rendered
 pub mod Bounds
 pub mod Grown
 pub mod Calling
+pub mod Arguments

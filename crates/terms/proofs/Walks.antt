@@ -1,6 +1,7 @@
 -- What a walk over an expression goes by: the arguments of a call, and what a call's references are.
-use Rattle.std.proofs.Common.{◌≡◌, ℕ, ◌+◌, ◌<◌, ◌≤◌, Bool, true, false, ◌&&◌, ◌||◌, leb, List, [], ◌∷◌, ◌++◌, map, length, get_or, refl, ap, ◌∙◌, arith}
+use Rattle.std.proofs.Common.{◌≡◌, ℕ, ◌+◌, ◌<◌, ◌≤◌, Bool, true, false, ◌&&◌, ◌||◌, leb, List, [], ◌∷◌, ◌++◌, map, length, get_or, sym, refl, ap, ◌∙◌, arith}
 use Rattle.std.proofs.lemmas.List.{length-map, get_or-map}
+use Rattle.std.proofs.lemmas.List.Folds.{list_all-map}
 use Rattle.std.proofs.lemmas.Bool.{and_parts, leb-true, ltb-true}
 use Rattle.std.specs.List.{list_all, list_any}
 use Rattle.table.specs.Contents.{part}
@@ -10,9 +11,7 @@ use Rattle.plan.specs.Fields.{any, every, resolves, resolved}
 use Rattle.plan.specs.Calls.{below, all_below}
 use Rattle.terms.specs.Build.{numbers_in, inside_node}
 use Rattle.terms.specs.Entries.{entry_number}
-use Rattle.terms.specs.Views.{numbers_of}
 use Rattle.terms.specs.declared.node.Entry.{Entry}
-use Rattle.terms.specs.declared.node.ExprId.{ExprId}
 use Rattle.terms.specs.declared.node.ExprNode.TheVariants.{Call}
 use Rattle.terms.specs.declared.node.Run.{Run}
 use Rattle.terms.proofs.Frames.{every-at}
@@ -54,24 +53,26 @@ pub any-mapped : {X Y : Type 0} (p : Y → Bool) (f : X → Y) (xs : List X) →
 any-mapped p f [] = refl
 any-mapped p f (x ∷ xs) = ap (λ b. p (f x) || b) (any-mapped p f xs)
 
--- the same where a list is mapped twice
-module _ {X Y Z : Type 0} (p : Z → Bool) (g : Y → Z) (f : X → Y) where
-  pub every-twice : (xs : List X) → list_all (λ x. p (g (f x))) xs ≡ every p (map g (map f xs))
-  every-twice [] = refl
-  every-twice (x ∷ xs) = ap (λ b. p (g (f x)) && b) (every-twice xs)
+pub any-moved : {X Y : Type 0} (p : Y → Bool) (f : X → Y) (xs : List X) → any (λ x. p (f x)) xs ≡ any p (map f xs)
+any-moved p f [] = refl
+any-moved p f (x ∷ xs) = ap (λ b. p (f x) || b) (any-moved p f xs)
 
-  pub any-twice : (xs : List X) → list_any (λ x. p (g (f x))) xs ≡ any p (map g (map f xs))
-  any-twice [] = refl
-  any-twice (x ∷ xs) = ap (λ b. p (g (f x)) || b) (any-twice xs)
+-- the same where a list is mapped twice
+module _ {X Y Z : Type 0} (p : Z → Bool) (g : Y → Z) (f : X → Y) (xs : List X) where
+  pub every-twice : list_all (λ x. p (g (f x))) xs ≡ every p (map g (map f xs))
+  every-twice = sym (list_all-map (λ y. p (g y)) f xs) ∙ every-mapped p g (map f xs)
+
+  pub any-twice : list_any (λ x. p (g (f x))) xs ≡ any p (map g (map f xs))
+  any-twice = any-mapped (λ y. p (g y)) f xs ∙ any-moved p g (map f xs)
+
+-- the number of an item, of a list whose numbers are all so low
+pub item_below : {X : Type 0} (f : X → ℕ) (n : ℕ) (xs : List X) (i : ℕ) (d : X) → i < length xs → all_below n (map f xs) ≡ true → f (get_or xs i d) < n
+item_below f n xs i d lt h =
+    let e = get_or-map f xs i d (f d) lt in
+    omega (arith, e, ltb-true _ _ (every-at (below n) (map f xs) i (f d) (omega (arith, length-map xs f)) h))
 
 -- a call's references are those of its arguments
 pub resolved-arguments : (fs : List Field) (ts : List Expr) → every (resolves fs) (references_of_all (arguments ts)) ≡ every (resolved fs) ts
 resolved-arguments fs [] = refl
 resolved-arguments fs (t ∷ ts) =
     every-both (resolves fs) (references_of t) (references_of_all (arguments ts)) ∙ ap (λ b. resolved fs t && b) (resolved-arguments fs ts)
-
--- an expression of a list whose numbers all stand in the book
-pub one_below : (n : ℕ) (ids : List ExprId) (i : ℕ) (d : ExprId) → i < length ids → all_below n (numbers_of ids) ≡ true → (get_or ids i d).0 < n
-one_below n ids i d lt h =
-    let e = get_or-map (λ x. x.0) ids i d d.0 lt in
-    omega (arith, e, ltb-true _ _ (every-at (below n) (numbers_of ids) i d.0 (omega (arith, length-map ids (λ x. x.0))) h))

@@ -29,29 +29,19 @@ struct Arguments<'a> {
 
 impl Arguments<'_> {
     /// How many nodes their trees have together.
-    // A loop, since with `map` and `sum` four facts stay open: what each call needs, the bound and both clauses.
     fn sizes(self) -> u32
         ensures value { result ≡ sizes_of (arguments_of self.entry.terms.now self.entry.ids.now) }
         ensures bound { result ≤ 1024 }
     {
-        let mut total = 0;
-        for id in self.ids {
-            total += self.terms.size(*id);
-        }
-        total
+        self.ids.iter().map(|id| self.terms.size(*id)).sum()
     }
 
     /// How long their rendered names are, with a blank before each.
-    // A loop as in `sizes`.
     fn blank_widths(self) -> u32
         ensures value { result ≡ length (rendered_rest (view_of self.entry.terms.now).functions (arguments_of self.entry.terms.now self.entry.ids.now)) }
         ensures bound { result ≤ 523268 }
     {
-        let mut total = 0;
-        for id in self.ids {
-            total += self.terms.width(*id) + 1;
-        }
-        total
+        self.ids.iter().map(|id| self.terms.width(*id) + 1).sum()
     }
 
     /// How long the rendered name of a function's call of them is.

@@ -1,45 +1,33 @@
-use Rattle.std.proofs.Common.{ℕ, ◌+◌, ◌<◌, ◌≤◌, length, get_or, drop, arith, length-append}
-use Rattle.table.proofs.Loops.{twice-step}
-use Rattle.plan.specs.Model.{expr_in, exprs_in}
-use Rattle.plan.specs.Rendering.{rendered, rendered_rest}
-use Rattle.plan.specs.Terms.{arguments}
-use Rattle.terms.specs.Acceptance.{acceptable}
+use Rattle.std.proofs.Common.{◌+◌, ◌<◌, sym, subst, arith, rules}
+use Rattle.std.proofs.lemmas.Iterator.{YieldsList-from_slice, YieldsList-from_map}
+use Rattle.std.proofs.lemmas.Iterator.Adapters.{serves_from_places}
+use Rattle.std.proofs.lemmas.Iterator.Consumers.{sum_by_from_yields_List, fits_by_from_yields_list}
 use Rattle.terms.specs.Build.{width_of}
-use Rattle.terms.specs.Views.{count, view_of, tree_of, numbers_of}
+use Rattle.terms.specs.Views.{count, tree_of, view_of}
 use Rattle.terms.specs.declared.node.ExprId.{ExprId}
-use Rattle.terms.specs.declared.terms.Terms.{Terms}
-use Rattle.terms.proofs.Bounds.{small, width-le}
-use Rattle.terms.proofs.Frames.{every-at}
-use Rattle.terms.proofs.Walks.{one_below}
+use Rattle.terms.proofs.Arguments.{bounded-sum, short-name, widths-added}
+use Rattle.terms.proofs.Walks.{item_below}
 use Rattle.terms.proofs.terms.calling.Arguments.blank_widths.Goals as goal
 
-abbrev zero : ExprId
-zero = record { 0 = 0 }
-
--- an argument's rendered name is not too long
-short : (t : Terms) (i : ℕ) → i < count t → width_of (view_of t).functions (tree_of t i) ≤ 130816
-short t i lt =
-    let v = view_of t in
-    let ok = every-at (acceptable v.functions) v.trees i _ lt t.accepted in
-    omega (arith, width-le v.functions t.lexicon.good (tree_of t i) ok, small v.functions (tree_of t i) ok)
-
-pub overflow_add-total : goal.overflow_add-total
-overflow_add-total c =
+pub sum-requires-clause-can : goal.sum-requires-clause-can
+sum-requires-clause-can c =
     let t = c.args.self.terms.now in
-    let lt = one_below (count t) c.args.self.ids.now c.loop-id.id-index zero c.loop-id-test.true c.args.self.present in
-    omega (arith, c.width.ensures, short t (get_or c.args.self.ids.now c.loop-id.id-index zero).0 lt)
+    let n = count t in
+    let ids = c.args.self.ids.now in
+    (tt, serves_from_places (YieldsList-from_slice ids cc) (λ x q k. search rules) (λ x k lt e. let h : x.now.0 < n = subst (λ y. y.0 < n) (sym e) (item_below (λ y. y.0) n ids k x.now lt c.args.self.present) in search (rules, arith, short-name t x.now.0 h)))
 
-pub overflow_add-total-in-loop-id : goal.overflow_add-total-in-loop-id
-overflow_add-total-in-loop-id c =
+pub sum-requires-clause-fits : goal.sum-requires-clause-fits
+sum-requires-clause-fits c =
     let t = c.args.self.terms.now in
-    let lt = one_below (count t) c.args.self.ids.now c.loop-id.id-index zero c.loop-id-test.true c.args.self.present in
-    omega (arith, c.loop-id.invariant.1, c.args.self.few, c.width.ensures, short t (get_or c.args.self.ids.now c.loop-id.id-index zero).0 lt)
+    let ids = c.args.self.ids.now in
+    let width = λ (e : ExprId). width_of (view_of t).functions (tree_of t e.0) + 1 in
+    fits_by_from_yields_list width ids c.map.result _ (YieldsList-from_map _ width (YieldsList-from_slice ids cc) c.map.ensures.closure (λ x r q k. search rules))
+    (omega (arith, bounded-sum (count t) 130817 width (λ e lt. omega (arith, short-name t e.0 lt)) ids c.args.self.present, c.args.self.few))
 
-pub loop-id-preserved : goal.loop-id-preserved
-loop-id-preserved c =
+pub returns : goal.returns
+returns c =
     let t = c.args.self.terms.now in
-    let v = view_of t in
-    let i = (get_or c.args.self.ids.now c.loop-id.id-index zero).0 in
-    let lt = one_below (count t) c.args.self.ids.now c.loop-id.id-index zero c.loop-id-test.true c.args.self.present in
-    let s = twice-step (λ ts. length (rendered_rest v.functions (arguments ts))) (expr_in v.trees) (λ e. e.0) c.args.self.ids.now c.loop-id.id-index zero c.loop-id-test.true in
-    (omega (arith, c.loop-id.invariant.0, s, c.width.ensures, length-append (rendered v.functions (tree_of t i)) (rendered_rest v.functions (arguments (drop (c.loop-id.id-index + 1) (exprs_in v.trees (numbers_of c.args.self.ids.now)))))), omega (arith, c.loop-id.invariant.1, c.width.ensures, short t i lt))
+    let ids = c.args.self.ids.now in
+    let width = λ (e : ExprId). width_of (view_of t).functions (tree_of t e.0) + 1 in
+    let s = sum_by_from_yields_List width ids c.map.result _ c.sum.ensures.ran (YieldsList-from_map _ width (YieldsList-from_slice ids cc) c.map.ensures.closure (λ x r q k. search rules)) in
+    record { value = omega (arith, s, widths-added t ids); bound = omega (arith, s, bounded-sum (count t) 130817 width (λ e lt. omega (arith, short-name t e.0 lt)) ids c.args.self.present, c.args.self.few) }

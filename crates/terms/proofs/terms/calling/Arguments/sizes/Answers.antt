@@ -1,37 +1,32 @@
-use Rattle.std.proofs.Common.{get_or, arith}
-use Rattle.table.proofs.Loops.{twice-step, twice-end}
-use Rattle.plan.specs.Model.{expr_in}
-use Rattle.plan.specs.Terms.{arguments, sizes_of}
-use Rattle.terms.specs.Acceptance.{acceptable}
-use Rattle.terms.specs.Views.{count, view_of, tree_of}
+use Rattle.std.proofs.Common.{◌<◌, sym, subst, arith, rules}
+use Rattle.std.proofs.lemmas.Iterator.{YieldsList-from_slice, YieldsList-from_map}
+use Rattle.std.proofs.lemmas.Iterator.Adapters.{serves_from_places}
+use Rattle.std.proofs.lemmas.Iterator.Consumers.{sum_by_from_yields_List, fits_by_from_yields_list}
+use Rattle.plan.specs.Terms.{size_of}
+use Rattle.terms.specs.Views.{count, tree_of}
 use Rattle.terms.specs.declared.node.ExprId.{ExprId}
-use Rattle.terms.proofs.Bounds.{small}
-use Rattle.terms.proofs.Frames.{every-at}
-use Rattle.terms.proofs.Walks.{one_below}
+use Rattle.terms.proofs.Arguments.{bounded-sum, small-tree, sizes-added}
+use Rattle.terms.proofs.Walks.{item_below}
 use Rattle.terms.proofs.terms.calling.Arguments.sizes.Goals as goal
 
-abbrev zero : ExprId
-zero = record { 0 = 0 }
+pub sum-requires-clause-can : goal.sum-requires-clause-can
+sum-requires-clause-can c =
+    let n = count c.args.self.terms.now in
+    let ids = c.args.self.ids.now in
+    (tt, serves_from_places (YieldsList-from_slice ids cc) (λ x q k. search rules) (λ x k lt e. let h : x.now.0 < n = subst (λ y. y.0 < n) (sym e) (item_below (λ y. y.0) n ids k x.now lt c.args.self.present) in search rules))
 
-pub overflow_add-total : goal.overflow_add-total
-overflow_add-total c =
+pub sum-requires-clause-fits : goal.sum-requires-clause-fits
+sum-requires-clause-fits c =
     let t = c.args.self.terms.now in
-    let v = view_of t in
-    let i = (get_or c.args.self.ids.now c.loop-id.id-index zero).0 in
-    let lt = one_below (count t) c.args.self.ids.now c.loop-id.id-index zero c.loop-id-test.true c.args.self.present in
-    omega (arith, c.loop-id.invariant.1, c.size-total.ensures, small v.functions (tree_of t i) (every-at (acceptable v.functions) v.trees i _ lt t.accepted), c.args.self.few, c.loop-id-test.true)
-
-pub loop-id-preserved : goal.loop-id-preserved
-loop-id-preserved c =
-    let t = c.args.self.terms.now in
-    let v = view_of t in
-    let i = (get_or c.args.self.ids.now c.loop-id.id-index zero).0 in
-    let lt = one_below (count t) c.args.self.ids.now c.loop-id.id-index zero c.loop-id-test.true c.args.self.present in
-    let s = twice-step (λ ts. sizes_of (arguments ts)) (expr_in v.trees) (λ e. e.0) c.args.self.ids.now c.loop-id.id-index zero c.loop-id-test.true in
-    (omega (arith, c.loop-id.invariant.0, s, c.size-total.ensures), omega (arith, c.loop-id.invariant.1, c.size-total.ensures, small v.functions (tree_of t i) (every-at (acceptable v.functions) v.trees i _ lt t.accepted)))
+    let ids = c.args.self.ids.now in
+    let size = λ (e : ExprId). size_of (tree_of t e.0) in
+    fits_by_from_yields_list size ids c.map.result _ (YieldsList-from_map _ size (YieldsList-from_slice ids cc) c.map.ensures.closure (λ x r q k. search rules))
+    (omega (arith, bounded-sum (count t) 256 size (λ e lt. small-tree t e.0 lt) ids c.args.self.present, c.args.self.few))
 
 pub returns : goal.returns
 returns c =
-    let v = view_of c.args.self.terms.now in
-    let s = twice-end (λ ts. sizes_of (arguments ts)) (expr_in v.trees) (λ e. e.0) c.args.self.ids.now c.loop-id.id-index c.loop-id-test.false in
-    record { value = omega (arith, c.loop-id.invariant.0, s); bound = omega (arith, c.loop-id.invariant.1, c.args.self.few) }
+    let t = c.args.self.terms.now in
+    let ids = c.args.self.ids.now in
+    let size = λ (e : ExprId). size_of (tree_of t e.0) in
+    let s = sum_by_from_yields_List size ids c.map.result _ c.sum.ensures.ran (YieldsList-from_map _ size (YieldsList-from_slice ids cc) c.map.ensures.closure (λ x r q k. search rules)) in
+    record { value = omega (arith, s, sizes-added t ids); bound = omega (arith, s, bounded-sum (count t) 256 size (λ e lt. small-tree t e.0 lt) ids c.args.self.present, c.args.self.few) }
