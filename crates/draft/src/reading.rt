@@ -64,10 +64,5 @@ pub fn rendered_bytes(terms: &Terms, ids: &[ExprId]) -> usize
     ensures value { result ≡ sum_by (rendered_bytes (view_of terms.now).functions) (exprs_in (view_of terms.now).trees (numbers_of ids.now)) }
     ensures bound { result ≤ 8372224 }
 {
-    // A `for`: with `map` and `sum`, what each call asks, the bound and the value stay open.
-    let mut total: usize = 0;
-    for id in ids {
-        total += rendered_len(terms, *id) as usize;
-    }
-    total
+    ids.iter().map(|id| rendered_len(terms, *id) as usize).sum()
 }
