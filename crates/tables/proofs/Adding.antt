@@ -99,14 +99,14 @@ stored-for w u o g ds es fs F e h = subst (λ l. StoredAll w o g l fs u F) e h
 
 -- after the names and lists: the draft is as it was
 module _ (t : Tables) (n : NewNode) (k : ℕ) (ds : List DraftField) (dr : ShownDraft t n ds) (w : View) (x : Placed) (px : PlacedAs (view_in t) k n x w) where
-  kept : (map (draft_field w (word w.bytes x.owner) (word w.bytes x.given)) ds ≡ fields_of (view_in t).functions (tree_for t n))
-      × (every (draft_in w (word w.bytes x.owner) (word w.bytes x.given)) ds ≡ true)
+  kept : (map (draft_field w (word w.bytes x.lent.owner) (word w.bytes x.lent.given)) ds ≡ fields_of (view_in t).functions (tree_for t n))
+      × (every (draft_in w (word w.bytes x.lent.owner) (word w.bytes x.lent.given)) ds ≡ true)
       × (draft_bytes w ds ≡ sum_by (rendered_bytes (view_in t).functions) (shown_expressions (tree_for t n)))
   kept =
       let g = drafts-grown (view_in t) w (own_text n) (own_entries n) (lent_owner n) (lent_given n) ds px.view dr.inside in
       (ap₂ (λ o l. map (draft_field w o l) ds) px.owner px.given ∙ g.0 ∙ dr.fields, ap₂ (λ o l. every (draft_in w o l) ds) px.owner px.given ∙ g.1, g.2 ∙ dr.bytes)
 
-  pub draft-kept : every (draft_in w (word w.bytes x.owner) (word w.bytes x.given)) ds ≡ true
+  pub draft-kept : every (draft_in w (word w.bytes x.lent.owner) (word w.bytes x.lent.given)) ds ≡ true
   draft-kept = kept.1
 
   pub draft-long : length ds ≡ length (fields_of (view_in t).functions (tree_for t n))
@@ -117,7 +117,7 @@ module _ (t : Tables) (n : NewNode) (k : ℕ) (ds : List DraftField) (dr : Shown
       omega (arith, (fits-parts (model_of t).used (outlay_for t n) h).3, kept.2, ap (λ y. length y.bytes) px.view, length-append (view_in t).bytes (own_text n), own-bytes n)
 
   module _ (ke : k ≡ plan_count t) (u : View) (F : List StoredField)
-      (st : StoredAll w (word w.bytes x.owner) (word w.bytes x.given) ds t.fields u F)
+      (st : StoredAll w (word w.bytes x.lent.owner) (word w.bytes x.lent.given) ds t.fields u F)
       (lim : limited (view_in t).functions (tree_for t n) ≡ true) (named : well_named n ≡ true) (number : PlanId) (ne : number.0 ≡ k) (first count size : ℕ) (fe : first ≡ length t.fields) (ce : count ≡ length ds) (se : size ≡ plan_size_of (tree_for t n))
       (R : List PlanRecord) (Re : R ≡ t.plans ++ record { node = x.node; fields = record { first = first; count = count }; size = size; origin = number } ∷ []) where
     abbrev new : PlanRecord
@@ -139,7 +139,7 @@ module _ (t : Tables) (n : NewNode) (k : ℕ) (ds : List DraftField) (dr : Shown
         ap₂ (λ y fs. plan_nodes y fs t.plans) seen st.grew ∙ (plans-grow (view_in t) [] bs (own_entries n) t.fields st.new t.stored t.plans t.sound).1
 
     new-long : length st.new ≡ length ds
-    new-long = sym (length-map st.new (stored_field u.bytes)) ∙ ap length st.fields ∙ length-map ds (draft_field w (word w.bytes x.owner) (word w.bytes x.given))
+    new-long = sym (length-map st.new (stored_field u.bytes)) ∙ ap length st.fields ∙ length-map ds (draft_field w (word w.bytes x.lent.owner) (word w.bytes x.lent.given))
 
     has-fields : fields_in u.bytes F new.fields ≡ fields_of (view_in t).functions (tree_for t n)
     has-fields =

@@ -81,9 +81,8 @@ nameless-placed v w k n p x e o g s i a ins t =
       accepted = λ h. a;
       tree = λ fs ts h. t fs ts;
       inputs = ins;
-      owner_inside = le-leb 0 (length w.bytes) (omega arith);
+      lent = record { owner = le-leb 0 (length w.bytes) (omega arith); given = le-leb 0 (length w.bytes) (omega arith) };
       owner = sym o;
-      given_inside = le-leb 0 (length w.bytes) (omega arith);
       given = sym g;
     })
 
@@ -95,7 +94,7 @@ names-back q (n ∷ ns) = ap (λ l. n ∷ l) (names-back q ns)
 pub table-placed : (v w u : View) (k : PlanId) (n : NewNode) (q ns : List ℕ) (a b : Span) → own_text n ≡ q ++ ns → own_entries n ≡ [] → lent_owner n ≡ q → lent_given n ≡ ns
     → ((ts : List Plan) → tree_over v k.0 ts n ≡ table k.0 q (parts ns)) → inputs_for n ≡ [] → (well_named n ≡ true → good_name q ≡ true)
     → w ≡ grown v [] q [] → span_in w.bytes a ≡ true → word w.bytes a ≡ q → u ≡ grown w [] ns [] → span_in u.bytes b ≡ true → word u.bytes b ≡ ns
-    → PlacedAs v k.0 n (record { node = Table k a; owner = a; given = b }) u
+    → PlacedAs v k.0 n (record { node = Table k a; lent = record { owner = a; given = b } }) u
 table-placed v w u k n q ns a b text entries owner given tree ins good e ai aw f bi bw =
     let g = span_grow w.bytes ns a ai in
     let x : u.bytes ≡ w.bytes ++ ns = ap (λ y. y.bytes) f in
@@ -107,9 +106,8 @@ table-placed v w u k n q ns a b text entries owner given tree ins good e ai aw f
       accepted = λ h. ap good_name uw ∙ good h;
       tree = λ fs ts h. ap₂ (λ c l. table k.0 c l) uw (ap (map (λ y. y.name)) (h ∙ ap (fields_of v.functions) (tree ts)) ∙ names-back q (parts ns)) ∙ sym (tree ts);
       inputs = sym ins;
-      owner_inside = ua;
+      lent = record { owner = ua; given = bi };
       owner = uw ∙ sym owner;
-      given_inside = bi;
       given = bw ∙ sym given;
     }
 
@@ -117,7 +115,7 @@ table-placed v w u k n q ns a b text entries owner given tree ins good e ai aw f
 pub alias-placed : (v w : View) (k : ℕ) (i : PlanId) (n : NewNode) (name : List ℕ) (a : Span) → own_text n ≡ name → own_entries n ≡ [] → lent_owner n ≡ name → lent_given n ≡ []
     → ((ts : List Plan) → tree_over v k ts n ≡ subquery_alias name (plan_in ts i.0)) → inputs_for n ≡ i.0 ∷ [] → (well_named n ≡ true → good_name name ≡ true) → ltb i.0 k ≡ true
     → w ≡ grown v [] name [] → span_in w.bytes a ≡ true → word w.bytes a ≡ name
-    → PlacedAs v k n (record { node = SubqueryAlias i a; owner = a; given = record { start = 0; len = 0 } }) w
+    → PlacedAs v k n (record { node = SubqueryAlias i a; lent = record { owner = a; given = record { start = 0; len = 0 } } }) w
 alias-placed v w k i n name a text entries owner given tree ins good low e ai aw =
     record {
       view = e ∙ ap₂ (λ t es. grown v [] t es) (sym text) (sym entries);
@@ -125,9 +123,8 @@ alias-placed v w k i n name a text entries owner given tree ins good low e ai aw
       accepted = λ h. ap good_name aw ∙ good h;
       tree = λ fs ts h. ap (λ x. subquery_alias x (plan_in ts i.0)) aw ∙ sym (tree ts);
       inputs = sym ins;
-      owner_inside = ai;
+      lent = record { owner = ai; given = le-leb 0 (length w.bytes) (omega arith) };
       owner = aw ∙ sym owner;
-      given_inside = le-leb 0 (length w.bytes) (omega arith);
       given = sym given;
     }
 

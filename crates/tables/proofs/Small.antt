@@ -1,10 +1,9 @@
 -- Every expression of a book has a small tree and no overlong name.
-use Rattle.std.proofs.Common.{◌≡◌, ℕ, ◌<◌, ◌≤◌, true, ◌&&◌, leb, List, [], ◌∷◌, length, sym, refl, ap, ◌∙◌, ap₂, arith}
+use Rattle.std.proofs.Common.{◌≡◌, ℕ, ◌<◌, true, ◌&&◌, leb, List, [], ◌∷◌, length, sym, refl, ap, ◌∙◌, ap₂, arith}
 use Rattle.std.proofs.lemmas.Bool.{and_parts, and_from, le-leb, ltb-true}
 use Rattle.plan.specs.Terms.{Expr}
 use Rattle.plan.specs.Terms.Expr.{literal, reference, alias, call}
-use Rattle.plan.specs.Functions.{Functions}
-use Rattle.plan.specs.Plans.{Plan, fields_of, plan_size_of}
+use Rattle.plan.specs.Plans.{plan_size_of}
 use Rattle.plan.specs.Fields.{every}
 use Rattle.plan.specs.Questions.{expressions_of, shown_expressions, small_tree, short_name, limited}
 use Rattle.plan.specs.Model.{expr_in, exprs_in, plans_in, no_expr}
@@ -14,11 +13,13 @@ use Rattle.terms.specs.Build.{width_of}
 use Rattle.terms.specs.Views.{numbers_of}
 use Rattle.terms.proofs.Bounds.{small, width-le}
 use Rattle.terms.proofs.Frames.{every-at, every_append}
+use Rattle.tables.specs.Asked.{functions_for, new_fields, new_tree}
 use Rattle.tables.specs.Holding.{view_in, trees_in}
 use Rattle.tables.specs.Making.{input_numbers, present, tree_for}
 use Rattle.tables.specs.declared.node.NewNode.{NewNode}
 use Rattle.tables.specs.declared.node.NewNode.TheVariants.{Table, Projection, Filter, Sort, Limit, Aggregate, Join, SubqueryAlias, Union}
 use Rattle.tables.specs.declared.tables.Tables.{Tables}
+use Rattle.tables.specs.declared.tables.asked.Asked.{Asked}
 use Rattle.tables.proofs.NodeFacts.{projection-in, filter-in, sort-in, aggregate-in, join-in, key-expressions, union-expressions}
 
 module _ (t : Tables) where
@@ -49,7 +50,7 @@ module _ (t : Tables) where
   all_small (SubqueryAlias i n) h = refl
   all_small (Union is) h = ap (every small_tree) (union-expressions (plans_in (trees_in t) (input_numbers is.now)))
 
--- question 8, where fields, nodes and expressions keep their limits
-pub within : (fs : Functions) (p : Plan) → length (fields_of fs p) ≤ 64 → plan_size_of p ≤ 64 → every small_tree (expressions_of p) ≡ true → every (short_name fs) (shown_expressions p) ≡ limited fs p
-within fs p a b c =
-    sym (ap₂ (λ x y. (x && y) && (every small_tree (expressions_of p) && every (short_name fs) (shown_expressions p))) (le-leb _ _ a) (le-leb _ _ b) ∙ ap (λ x. x && every (short_name fs) (shown_expressions p)) c)
+-- question 8, where fields and nodes keep their limits: what is left to ask is whether the names are short
+pub limited-named : (a : Asked) → (leb (length (new_fields a)) 64 && leb (plan_size_of (new_tree a)) 64) ≡ true → every (short_name (functions_for a)) (shown_expressions (new_tree a)) ≡ limited (functions_for a) (new_tree a)
+limited-named a few =
+    sym (ap₂ (λ x y. x && (y && every (short_name (functions_for a)) (shown_expressions (new_tree a)))) few (all_small a.tables.now a.node a.present))

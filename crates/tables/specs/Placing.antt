@@ -5,7 +5,8 @@
 use Rattle.std.specs.Prelude.{◌≡◌, ℕ, true, List, [], ◌++◌, map}
 use Rattle.plan.specs.Terms.{Field}
 use Rattle.plan.specs.Plans.{Plan, fields_of}
-use Rattle.names.specs.Spans.{word, span_in}
+use Rattle.names.specs.Spans.{word}
+use Rattle.draft.specs.Drafts.{LentIn}
 use Rattle.terms.specs.Views.{View, grown}
 use Rattle.terms.specs.declared.node.Entry.{Entry}
 use Rattle.terms.specs.declared.node.Entry.TheVariants.{Expression, Input}
@@ -63,7 +64,7 @@ lent_given (Union is) = []
 
 -- a node that brings no names
 abbrev pub namelessly : PlanNode → Placed
-namelessly n = record { node = n; owner = record { start = 0; len = 0 }; given = record { start = 0; len = 0 } }
+namelessly n = record { node = n; lent = record { owner = record { start = 0; len = 0 }; given = record { start = 0; len = 0 } } }
 
 pub record PlacedAs (v : View) (k : ℕ) (n : NewNode) (r : Placed) (v' : View) : Type 0 where
   pub view : v' ≡ grown v [] (own_text n) (own_entries n)
@@ -71,7 +72,6 @@ pub record PlacedAs (v : View) (k : ℕ) (n : NewNode) (r : Placed) (v' : View) 
   pub accepted : well_named n ≡ true → accepted_node v'.bytes r.node ≡ true
   pub tree : (fs : List Field) (ts : List Plan) → fs ≡ fields_of v.functions (tree_over v k ts n) → build_plan_node v' fs ts r.node ≡ tree_over v k ts n
   pub inputs : node_inputs v'.entries r.node ≡ inputs_for n
-  pub owner_inside : span_in v'.bytes r.owner ≡ true
-  pub owner : word v'.bytes r.owner ≡ lent_owner n
-  pub given_inside : span_in v'.bytes r.given ≡ true
-  pub given : word v'.bytes r.given ≡ lent_given n
+  pub lent : LentIn v'.bytes r.lent
+  pub owner : word v'.bytes r.lent.owner ≡ lent_owner n
+  pub given : word v'.bytes r.lent.given ≡ lent_given n

@@ -7,7 +7,7 @@ pub use terms::node::Run;
 use terms::node::{ExprId, PlanId, Span};
 
 /// One node of a plan; its lists stand in the list table. A Table keeps its own number.
-#[derive(Clone, Copy)]
+#[derive(Clone, Copy, PartialEq, Eq, Debug)]
 pub enum PlanNode {
     Table {
         number: PlanId,
@@ -51,7 +51,7 @@ pub enum PlanNode {
 }
 
 /// A node with its fields, the size of its tree, and its origin.
-#[derive(Clone, Copy)]
+#[derive(Clone, Copy, PartialEq, Eq, Debug)]
 pub struct PlanRecord {
     pub node: PlanNode,
     pub fields: Run,
@@ -60,7 +60,7 @@ pub struct PlanRecord {
 }
 
 /// A Sort key.
-#[derive(Clone, Copy)]
+#[derive(Clone, Copy, PartialEq, Eq, Debug)]
 pub struct SortKey {
     pub by: ExprId,
     pub direction: Direction,
@@ -68,7 +68,7 @@ pub struct SortKey {
 
 /// A Sort key as a caller gives it, with the number of its direction.
 // A number, since outside a book codes and refusals are known by number.
-#[derive(Clone, Copy)]
+#[derive(Clone, Copy, PartialEq, Eq, Debug)]
 pub struct Key {
     pub by: ExprId,
     pub direction: u8,

@@ -6,17 +6,17 @@ ghost use Rattle.tables.specs.Making.{bounded, bytes_for, entries_for, present_i
 ghost use Rattle.terms.specs.Views.{view_of};
 
 use crate::node::{NewNode, PlanNode, Run};
+use draft::storing::Lent;
 use terms::listed::Listed;
 use terms::node::{PlanId, Span};
 use terms::terms::Terms;
 
-/// A node whose names and lists are in the tables, with where its names are.
+/// A node whose names and lists are in the tables, with the names that are lent to its fields.
 // A span of nothing stands for no name, since storing takes the bytes of both and reads none there.
 #[derive(Clone, Copy)]
 pub struct Placed {
     pub node: PlanNode,
-    pub owner: Span,
-    pub given: Span,
+    pub lent: Lent,
 }
 
 /// Puts a list into the list table.
@@ -35,8 +35,10 @@ impl From<PlanNode> for Placed {
         let none = Span { start: 0, len: 0 };
         Placed {
             node,
-            owner: none,
-            given: none,
+            lent: Lent {
+                owner: none,
+                given: none,
+            },
         }
     }
 }
@@ -58,8 +60,7 @@ pub fn place(terms: &mut Terms, node: NewNode<'_>, number: PlanId) -> Placed
                     number,
                     qualifier: owner,
                 },
-                owner,
-                given,
+                lent: Lent { owner, given },
             }
         }
         NewNode::Projection { input, list } => {
@@ -105,8 +106,10 @@ pub fn place(terms: &mut Terms, node: NewNode<'_>, number: PlanId) -> Placed
             let owner = terms.write(name);
             Placed {
                 node: PlanNode::SubqueryAlias { input, name: owner },
-                owner,
-                given: Span { start: 0, len: 0 },
+                lent: Lent {
+                    owner,
+                    given: Span { start: 0, len: 0 },
+                },
             }
         }
         NewNode::Union { inputs } => {

@@ -1,11 +1,12 @@
 //! What a node that is to be made is asked.
-ghost use Rattle.std.specs.Prelude.{◌≡◌, ◌+◌, ◌<◌, true, ◌++◌, map, length, nat_le};
+ghost use Rattle.std.specs.Prelude.{◌≡◌, ◌+◌, ◌<◌, true, ◌&&◌, ◌++◌, map, length, nat_le};
 ghost use Rattle.tables.specs.Holding.{fields_at, model_of, plan_count, view_in};
-ghost use Rattle.tables.specs.Asked.{functions_for, new_tree};
+ghost use Rattle.tables.specs.Asked.{functions_for, new_fields, new_tree};
 ghost use Rattle.tables.specs.Making.{bytes_for, entries_for, key_numbers, outlay_for};
 ghost use Rattle.plan.specs.Calls.{all_below};
 ghost use Rattle.plan.specs.Fields.{every, resolved};
 ghost use Rattle.plan.specs.Model.{expr_in, exprs_in, fits};
+ghost use Rattle.plan.specs.Plans.{plan_size_of};
 ghost use Rattle.plan.specs.Questions.{expressions_of, input_fields, limited, short_name, shown_expressions};
 ghost use Rattle.terms.specs.Spans.{stored_field, stored_in};
 ghost use Rattle.terms.specs.Views.{numbers_of};
@@ -147,18 +148,18 @@ impl Asked<'_, '_> {
         }
     }
 
-    /// Question 8: whether a node keeps the limits on fields, trees and names.
+    /// Whether a node keeps the limits on fields and on its tree.
+    fn is_small(self) -> bool
+        ensures { result ≡ (nat_le (length (new_fields self.entry)) 64 && nat_le (plan_size_of (new_tree self.entry)) 64) }
+    {
+        self.width() <= 64 && self.tree_size() <= 64
+    }
+
+    /// Question 8: whether a node keeps these limits and the one on names.
     pub(super) fn is_limited(self) -> bool
         ensures { result ≡ limited (functions_for self.entry) (new_tree self.entry) }
     {
-        // Early returns, since a bound in a chain of tests is in the names of its goals.
-        if self.width() > 64 {
-            return false;
-        }
-        if self.tree_size() > 64 {
-            return false;
-        }
-        self.has_short_names()
+        self.is_small() && self.has_short_names()
     }
 
     /// Whether a node's own bytes and its fields' rendered names have room in the text.

@@ -11,7 +11,7 @@ use super::asked::Asked;
 use super::lawful::blank;
 use crate::node::{NewNode, PlanRecord, Run};
 use crate::placing::place;
-use draft::storing::{Lent, store};
+use draft::storing::store;
 use plan::fault::{Fault, Question, ask};
 use table::table::Table;
 use terms::node::PlanId;
@@ -36,10 +36,7 @@ impl Tables {
         store(
             &mut self.terms,
             &mut self.fields,
-            Lent {
-                owner: placed.owner,
-                given: placed.given,
-            },
+            placed.lent,
             draft.as_slice(),
         );
         let count = draft.len() as u32;

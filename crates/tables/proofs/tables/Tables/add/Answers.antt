@@ -30,7 +30,7 @@ store-requires c =
     let s = c.as_slice.ensures in
     let f = fits-parts (model_of t).used (outlay_for t n) c.requires.room in
     record {
-      lent = record { owner = c.place-placed.ensures.owner_inside; given = c.place-placed.ensures.given_inside };
+      lent = c.place-placed.ensures.lent;
       inside = ap (every _) s ∙ draft-kept t n _ ds c.draft_shown.ensures w c.place-placed.result c.place-placed.ensures;
       fields = omega (arith, ap length s, draft-long t n _ ds c.draft_shown.ensures w c.place-placed.result c.place-placed.ensures, f.2);
       bytes = omega (arith, ap (draft_bytes w) s, bytes_left t n _ ds c.draft_shown.ensures w c.place-placed.result c.place-placed.ensures c.requires.room);
