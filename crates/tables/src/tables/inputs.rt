@@ -5,6 +5,7 @@ ghost use Rattle.tables.specs.Holding.{model_of, plan_count};
 
 use super::Tables;
 use crate::node::PlanNode;
+use terms::listed::Listed;
 use terms::node::PlanId;
 use terms::terms::Terms;
 
@@ -39,7 +40,7 @@ impl Tables {
             | PlanNode::Aggregate { input, .. }
             | PlanNode::SubqueryAlias { input, .. } => input,
             PlanNode::Join { left, right, .. } => { if position == 0 { left } else { right } }
-            PlanNode::Union { inputs } => { PlanId(self.terms.listed(inputs, position).0) }
+            PlanNode::Union { inputs } => PlanId::read(self.terms.entry(inputs, position)),
         }
     }
 }
