@@ -1,16 +1,20 @@
--- The inputs of a node, and the node as its record says it.
-use Rattle.std.proofs.Common.{◌≡◌, ℕ, ◌<◌, true, ◌&&◌, ltb, List, length, get_or, sym, refl, ap, ◌∙◌, subst, arith}
+-- The inputs of a node, the node as its record says it, and how large the trees of some nodes are together.
+use Rattle.std.proofs.Common.{◌≡◌, ℕ, ◌+◌, ◌*◌, ◌<◌, ◌≤◌, true, ◌&&◌, ltb, List, [], ◌∷◌, length, get_or, sum_by, sym, refl, ap, ◌∙◌, subst, arith}
 use Rattle.std.proofs.lemmas.List.{length-map, get_or_default}
+use Rattle.std.proofs.lemmas.List.Sums.{sum_by-cons}
 use Rattle.std.proofs.lemmas.Bool.{and_parts, and_from, leb-true, ltb-true}
 use Rattle.table.specs.Contents.{part}
 use Rattle.table.proofs.Parts.{length_part}
-use Rattle.plan.specs.Model.{no_node, inputs_at, tree_at}
+use Rattle.plan.specs.Model.{no_node, inputs_at, plans_in, tree_at}
+use Rattle.plan.specs.Plans.{further_inputs, plan_size_of, plan_sizes_of}
 use Rattle.plan.specs.Calls.{below, all_below}
 use Rattle.terms.specs.Entries.{entry_number}
 use Rattle.terms.specs.Views.{View}
 use Rattle.terms.specs.declared.node.Entry.{Entry}
+use Rattle.terms.specs.declared.node.PlanId.{PlanId}
 use Rattle.terms.proofs.Frames.{every-at}
 use Rattle.tables.specs.Holding.{view_in, nodes_of, trees_in, tree_in, fields_at, model_of, plan_count}
+use Rattle.tables.specs.Making.{input_numbers}
 use Rattle.tables.specs.Reading.{ReadsAs}
 use Rattle.tables.specs.Stored.{build_plan_node, node_inputs, inside_node, accepted_node, run_in, run_numbers, list_in}
 use Rattle.terms.specs.declared.node.Run.{Run}
@@ -66,3 +70,20 @@ pub input-lower : (t : Tables) (p k : ℕ) (n : PlanNode) → NodeReads t p n �
 input-lower t p k n h lt =
     let all : all_below p (inputs_at (model_of t) p) ≡ true = ap (all_below p) h.inputs ∙ inputs-below (view_in t) p n h.inside in
     ltb-true _ _ (every-at (below p) (inputs_at (model_of t) p) k 0 lt all)
+
+small-tree : (t : Tables) (i : ℕ) → i < plan_count t → plan_size_of (tree_in t i) ≤ 64
+small-tree t i lt =
+    let r = get_or t.plans i filler in
+    let h = reads_as t i r lt (get_or_default t.plans i filler r (omega (arith, counted t))) in
+    omega (arith, h.size, h.small)
+
+module _ (t : Tables) where
+  pub sizes-added : (ps : List PlanId) → sum_by (λ p. plan_size_of (tree_in t p.0)) ps ≡ plan_sizes_of (further_inputs (plans_in (trees_in t) (input_numbers ps)))
+  sizes-added [] = refl
+  sizes-added (p ∷ ps) = sum_by-cons (λ q. plan_size_of (tree_in t q.0)) p ps ∙ ap (λ n. plan_size_of (tree_in t p.0) + n) (sizes-added ps)
+
+  pub sizes-small : (ps : List PlanId) → all_below (plan_count t) (input_numbers ps) ≡ true → sum_by (λ p. plan_size_of (tree_in t p.0)) ps ≤ 64 * length ps
+  sizes-small [] h = omega arith
+  sizes-small (p ∷ ps) h =
+      let q = and_parts (below (plan_count t) p.0) (all_below (plan_count t) (input_numbers ps)) h in
+      omega (arith, sum_by-cons (λ x. plan_size_of (tree_in t x.0)) p ps, small-tree t p.0 (ltb-true _ _ q.0), sizes-small ps q.1)

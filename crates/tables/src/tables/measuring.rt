@@ -58,12 +58,7 @@ impl Tables {
         ensures value { result ≡ plan_sizes_of (further_inputs (plans_in (trees_in self.now) (input_numbers inputs.now))) }
         ensures bound { result ≤ 512 }
     {
-        // A `for`: the sum of a chain leaves three goals that no short answer closes.
-        let mut total = 0;
-        for p in inputs {
-            total += self.size_of(*p);
-        }
-        total
+        inputs.iter().map(|p| self.size_of(*p)).sum()
     }
 }
 

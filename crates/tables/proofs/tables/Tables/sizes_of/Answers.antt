@@ -1,27 +1,23 @@
-use Rattle.std.proofs.Common.{arith}
-use Rattle.table.proofs.Loops.{twice-step, twice-end}
-use Rattle.plan.specs.Model.{plan_in}
-use Rattle.plan.specs.Plans.{further_inputs, plan_sizes_of}
+use Rattle.std.proofs.Common.{◌<◌, length, sym, ◌∙◌, subst, arith, rules}
+use Rattle.std.proofs.lemmas.Iterator.{YieldsList-from_slice, YieldsList-from_map}
+use Rattle.std.proofs.lemmas.Iterator.Adapters.{serves_from_places}
+use Rattle.std.proofs.lemmas.Iterator.Consumers.{sum_by_from_yields_List}
+use Rattle.plan.specs.Plans.{plan_size_of}
 use Rattle.terms.specs.declared.node.PlanId.{PlanId}
-use Rattle.tables.specs.Holding.{trees_in, plan_count}
+use Rattle.tables.specs.Holding.{tree_in, plan_count}
+use Rattle.tables.proofs.Inputs.{sizes-added, sizes-small}
 use Rattle.tables.proofs.NodeFacts.{input-below}
 use Rattle.tables.proofs.tables.Tables.sizes_of.Goals as goal
 
-abbrev zero : PlanId
-zero = record { 0 = 0 }
-
-pub size_of-total-requires : goal.size_of-total-requires
-size_of-total-requires c = input-below (plan_count c.args.self.now) c.args.inputs.now c.loop-p.p-index zero c.loop-p-test.true c.requires.present
-
-pub overflow_add-total : goal.overflow_add-total
-overflow_add-total c = omega (arith, c.loop-p.invariant.1, c.size_of-total.ensures.bound, c.requires.few, c.loop-p-test.true)
-
-pub loop-p-preserved : goal.loop-p-preserved
-loop-p-preserved c =
-    let s = twice-step (λ ts. plan_sizes_of (further_inputs ts)) (plan_in (trees_in c.args.self.now)) (λ p. p.0) c.args.inputs.now c.loop-p.p-index zero c.loop-p-test.true in
-    (omega (arith, c.loop-p.invariant.0, s, c.size_of-total.ensures.value), omega (arith, c.loop-p.invariant.1, c.size_of-total.ensures.bound))
+pub sum-requires-clause-can : goal.sum-requires-clause-can
+sum-requires-clause-can c =
+    let n = plan_count c.args.self.now in
+    let ps = c.args.inputs.now in
+    (tt, serves_from_places (YieldsList-from_slice ps cc) (λ x q k. search rules) (λ x k lt e. let h : x.now.0 < n = subst (λ y. y.0 < n) (sym e) (input-below n ps k x.now lt c.requires.present) in search rules))
 
 pub returns : goal.returns
 returns c =
-    let s = twice-end (λ ts. plan_sizes_of (further_inputs ts)) (plan_in (trees_in c.args.self.now)) (λ p. p.0) c.args.inputs.now c.loop-p.p-index c.loop-p-test.false in
-    record { value = omega (arith, c.loop-p.invariant.0, s); bound = omega (arith, c.loop-p.invariant.1, c.requires.few) }
+    let t = c.args.self.now in
+    let ps = c.args.inputs.now in
+    let s = sum_by_from_yields_List (λ (p : PlanId). plan_size_of (tree_in t p.0)) ps c.map.result _ c.sum.ensures.ran (YieldsList-from_map _ (λ (p : PlanId). plan_size_of (tree_in t p.0)) (YieldsList-from_slice ps cc) c.map.ensures.closure (λ x r q k. search rules)) in
+    record { value = s ∙ sizes-added t ps; bound = omega (arith, s, sizes-small t ps c.requires.present, c.requires.few) }
