@@ -1,4 +1,3 @@
 pub mod NodeAnswers
 pub mod WiderFacts
 pub mod SortFacts
-pub mod Searches

@@ -1,7 +1,6 @@
 -- A Sort's keys, as a caller gives them and as the node holds them.
 use Rattle.std.proofs.Common.{◌≡◌, ℕ, ◌<◌, true, not, ◌&&◌, List, [], ◌∷◌, ◌++◌, map, length, get_or, is_some, sym, refl, ap, ◌∙◌, ap₂, arith, Bor}
 use Rattle.std.proofs.lemmas.List.{get_or-map, length-map}
-use Rattle.std.proofs.lemmas.Bool.{ltb-true}
 use Rattle.plan.specs.Calls.Call.{make_sort}
 use Rattle.plan.specs.Calls.{below, all_below, between, key_in, node_outlay}
 use Rattle.plan.specs.Codes.{direction_of}
@@ -14,7 +13,7 @@ use Rattle.plan.specs.Questions.{node_asked}
 use Rattle.plan.specs.Terms.{Expr}
 use Rattle.plan.specs.declared.fault.Question.TheVariants.{Present, Bounded, Placed}
 use Rattle.terms.specs.declared.node.PlanId.{PlanId}
-use Rattle.terms.proofs.Frames.{every-at}
+use Rattle.tables.proofs.Chains.{item_below}
 use Rattle.tables.specs.Holding.{view_in, trees_in, plan_count}
 use Rattle.building.specs.Keys.{key_pair, key_pairs, sort_key}
 use Rattle.tables.specs.Making.{new_key, key_numbers}
@@ -27,10 +26,7 @@ use Rattle.building.proofs.NodeAnswers.{Makes}
 -- a key of a list whose expressions all stand in the book
 pub given_below : (n : ℕ) (ks : List Key) (i : ℕ) (d : Key) → i < length ks → all_below n (map (λ k. k.0) (key_pairs ks)) ≡ true → (get_or ks i d).by.0 < n
 given_below n ks i d lt h =
-    let e = get_or-map key_pair ks i d (key_pair d) lt in
-    let l = length-map ks key_pair in
-    let f = get_or-map (λ k. k.0) (key_pairs ks) i (key_pair d) d.by.0 (omega (arith, l)) ∙ ap (λ k. k.0) e in
-    omega (arith, f, ltb-true _ _ (every-at (below n) (map (λ k. k.0) (key_pairs ks)) i d.by.0 (omega (arith, l, length-map (key_pairs ks) (λ k. k.0))) h))
+    omega (arith, ap (λ k. k.0) (get_or-map key_pair ks i d (key_pair d) lt), item_below (λ k. k.0) n (key_pairs ks) i (key_pair d) (omega (arith, length-map ks key_pair)) h)
 
 pub sorted-numbers : (ks : List Key) → key_numbers (map sort_key ks) ≡ map (λ k. k.0) (key_pairs ks)
 sorted-numbers [] = refl

@@ -17,6 +17,7 @@ use tables::node::NewNode;
 use tables::tables::Tables;
 use terms::node::{ExprId, PlanId};
 
+// Free functions: Tables is a type of another crate, so that they cannot be its methods, and a wrapper would only hold it.
 fn good_table(qualifier: &[u8], names: &[u8]) -> bool
     ensures { result ≡ (good_name qualifier.now && every good_name (parts names.now)) }
 {

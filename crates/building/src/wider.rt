@@ -20,6 +20,8 @@ use tables::node::{Key, NewNode, SortKey};
 use tables::tables::Tables;
 use terms::node::{ExprId, PlanId};
 
+// Free functions, as in `nodes`.
+
 /// Whether every one of some expressions is a total.
 fn all_total(tables: &Tables, ids: &[ExprId]) -> bool
     requires { all_below (length (view_in tables.now).trees) (numbers_of ids.now) ≡ true }
@@ -117,6 +119,7 @@ fn same_width(tables: &Tables, a: PlanId, b: PlanId) -> bool
 }
 
 /// Whether some nodes have as many fields as the first.
+// A slice of numbers from a caller: that all are there is a clause, as for one number.
 fn same_widths(tables: &Tables, inputs: &[PlanId]) -> bool
     requires { all_below (plan_count tables.now) (input_numbers inputs.now) ≡ true }
     ensures { result ≡ equal_widths (view_in tables.now).functions (plans_in (trees_in tables.now) (input_numbers inputs.now)) }
@@ -125,6 +128,7 @@ fn same_widths(tables: &Tables, inputs: &[PlanId]) -> bool
 }
 
 /// Whether there are 1 to 8 nodes, with as many fields each.
+// A slice of numbers from a caller: that all are there is a clause, as for one number.
 fn are_alike(tables: &Tables, inputs: &[PlanId]) -> bool
     requires { all_below (plan_count tables.now) (input_numbers inputs.now) ≡ true }
     ensures { result ≡ (between 1 8 (length (input_numbers inputs.now)) && equal_widths (view_in tables.now).functions (plans_in (trees_in tables.now) (input_numbers inputs.now))) }
@@ -151,6 +155,7 @@ fn sort_keys(keys: &[Key]) -> Result<Table<SortKey, 16>, UnknownCode>
         by: ExprId(0),
         direction: Direction::AscendingNullsFirst,
     });
+    // A loop: `try_for_each` would push to the same table from a closure, and take two lines more to say it.
     for key in keys {
         out.push(SortKey::try_from(*key)?);
     }

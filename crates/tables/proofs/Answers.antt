@@ -2,9 +2,10 @@
 use Rattle.std.proofs.Common.{◌≡◌, ℕ, ◌+◌, ◌≤◌, Bool, true, false, ◌&&◌, leb, List, [], ◌∷◌, ◌++◌, map, length, Ok, Err, Result, sym, refl, ap, ◌∙◌, subst, ap₂, arith, length-append}
 use Rattle.std.proofs.lemmas.List.{append-nil}
 use Rattle.std.proofs.lemmas.Bool.{le-leb}
-use Rattle.plan.specs.Terms.{Expr}
+use Rattle.plan.specs.Terms.{Expr, Literal}
 use Rattle.plan.specs.Faults.{first_no}
 use Rattle.plan.specs.Model.{Model, Space, space, plus, fits}
+use Rattle.plan.specs.Calls.Call.{make_literal}
 use Rattle.plan.specs.Calls.{Call, asked, all_asked, new_exprs, new_plans, new_inputs, outlay, number_of_new, Made, Answers}
 use Rattle.plan.specs.declared.fault.Fault.{Fault}
 use Rattle.plan.specs.declared.fault.Question.TheVariants.{Space as SpaceQuestion}
@@ -122,3 +123,7 @@ module _ (t : Tables) (w : View) (c : Call) (s : SameCall (model_of t) (view_in 
   expr-answers (Ok x) a = made_of x.0 a
   expr-answers (Err f) a =
       (ap first_no all_same ∙ a.0, a.1, ap (λ x. model_from x t.fields t.plans) a.2)
+
+pub literal-answers : (t : Tables) (w : View) (l : Literal) (r : Result ExprId Fault) → Answered (view_in t) (make_literal l) r w → Answers (model_of t) (make_literal l) (answered_expr r) (model_from w t.fields t.plans)
+literal-answers t w l =
+    expr-answers t w (make_literal l) (record { asks = refl; makes = refl; costs = refl; no-plan = refl; no-inputs = refl; number = refl; expressions = refl; plans = refl; fields = refl })

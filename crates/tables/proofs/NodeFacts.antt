@@ -65,17 +65,6 @@ module _ (n : NewNode) (h : bounded n ≡ true) where
       let p = and_parts (leb (length gs.now) 16) _ (subst (λ m. bounded m ≡ true) e h) in
       (leb-true _ _ p.0, leb-true _ _ p.1)
 
--- an input of a list whose numbers all stand in the book
-pub input-below : (n : ℕ) (ps : List PlanId) (i : ℕ) (d : PlanId) → i < length ps → all_below n (input_numbers ps) ≡ true → (get_or ps i d).0 < n
-input-below n ps i d lt h =
-    let e = get_or-map (λ x. x.0) ps i d d.0 lt in
-    omega (arith, e, ltb-true _ _ (every-at (below n) (input_numbers ps) i d.0 (omega (arith, length-map ps (λ x. x.0))) h))
-
-pub key_below : (n : ℕ) (ks : List SortKey) (i : ℕ) (d : SortKey) → i < length ks → all_below n (key_numbers ks) ≡ true → (get_or ks i d).by.0 < n
-key_below n ks i d lt h =
-    let e = get_or-map (λ x. x.by.0) ks i d d.by.0 lt in
-    omega (arith, e, ltb-true _ _ (every-at (below n) (key_numbers ks) i d.by.0 (omega (arith, length-map ks (λ x. x.by.0))) h))
-
 -- a Sort's expressions are those that its keys name
 pub key-expressions : (ts : List Expr) (ks : List SortKey) → map (λ k. k.by) (map (new_key ts) ks) ≡ exprs_in ts (key_numbers ks)
 key-expressions ts [] = refl

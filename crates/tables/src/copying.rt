@@ -19,6 +19,7 @@ pub fn copied<T: Listed, const N: usize>(entries: &[Entry]) -> Table<T, N>
 }
 
 /// A name.
+// Not `copied`: that takes entries, and a name is bytes.
 pub fn copy_name(name: &[u8]) -> Table<u8, 255>
     requires { length name.now ≤ 255 }
     ensures { result ≡ name.now }

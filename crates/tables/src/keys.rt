@@ -18,6 +18,7 @@ impl Listed for SortKey {
         Entry::Key(self.by, self.direction)
     }
 
+    // Every entry is read as something, as the definition does, so that the law `kept` asks nothing of the entry.
     fn read(held: Entry) -> SortKey {
         let direction = match held {
             Entry::Key(_, direction) => direction,

@@ -67,7 +67,7 @@ pub struct SortKey {
 }
 
 /// A Sort key as a caller gives it, with the number of its direction.
-// A number, since outside a book codes and refusals are known by number.
+// A number, since outside a book codes and refusals are known by number. Inside, a SortKey holds the direction itself.
 #[derive(Clone, Copy, PartialEq, Eq, Debug)]
 pub struct Key {
     pub by: ExprId,
@@ -90,6 +90,7 @@ impl TryFrom<Key> for SortKey {
 }
 
 /// A node that is to be made.
+// Not one generic with PlanNode: four parameters, for lists, keys, inputs and names, would stand in every clause.
 #[derive(Clone, Copy)]
 pub enum NewNode<'a> {
     Table {

@@ -118,6 +118,7 @@ impl Asked<'_, '_> {
     pub(super) fn is_resolved(self) -> bool
         ensures { result ≡ every (resolved (input_fields (functions_for self.entry) (new_tree self.entry))) (expressions_of (new_tree self.entry)) }
     {
+        // One arm for each kind: the match says what the kinds mean.
         match self.node {
             NewNode::Projection { input, list } => self.tables.list_resolved(input, list),
             NewNode::Filter { input, predicate } => self.tables.one_resolved(input, predicate),

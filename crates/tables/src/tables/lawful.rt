@@ -18,6 +18,7 @@ use terms::node::PlanId;
 use terms::terms::Terms;
 
 /// What fills the places of a draft that are not used.
+// A filler from the caller: a Default of fields would be a made-up field that all can see.
 pub(super) fn blank() -> DraftField {
     DraftField {
         qualifier: None,
@@ -26,6 +27,7 @@ pub(super) fn blank() -> DraftField {
 }
 
 /// The lent name that the new node's fields take as qualifier; nothing where there is none.
+// An empty name for none, as the definition answers: a Source takes slices.
 fn lent_owner<'a>(node: NewNode<'a>) -> &'a [u8]
     ensures { result.now ≡ lent_owner node.entry }
 {
@@ -37,6 +39,7 @@ fn lent_owner<'a>(node: NewNode<'a>) -> &'a [u8]
 }
 
 /// The lent names of the new node's fields; nothing where there are none.
+// Empty for none, as the definition answers: a Source takes slices.
 fn lent_given<'a>(node: NewNode<'a>) -> &'a [u8]
     ensures { result.now ≡ lent_given node.entry }
 {

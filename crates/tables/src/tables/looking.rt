@@ -79,7 +79,7 @@ impl Tables {
     fn has_run(&self, run: Run, i: u32) -> bool
         ensures { result ≡ (nat_le (run.first + run.count) (entry_count self.now) && nat_lt i run.count) }
     {
-        // Counted back from the room: the list table lends only a run that is known to be inside it.
+        // Counted back from the room: a call for the number of entries would stand beside `list_room` for this one use.
         let len = 2048 - self.terms.list_room();
         (run.first as usize) + (run.count as usize) <= len && i < run.count
     }

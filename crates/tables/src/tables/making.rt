@@ -18,6 +18,7 @@ use terms::node::PlanId;
 
 impl Tables {
     /// Stores a node that has passed its questions.
+    // Clauses, not an Asked: that borrows the tables, and this call writes them.
     fn add(&mut self, node: NewNode<'_>) -> PlanId
         requires present { present self.old node ≡ true }
         requires bounded { bounded node ≡ true }
@@ -50,6 +51,7 @@ impl Tables {
     }
 
     /// Asks the questions on references, fields, limits and space, and stores the node.
+    // Clauses, not an Asked: that borrows the tables, and this call writes them.
     pub fn make(&mut self, node: NewNode<'_>) -> Result<PlanId, Fault>
         requires present { present self.old node ≡ true }
         requires bounded { bounded node ≡ true }

@@ -28,6 +28,7 @@ impl Tables {
     }
 
     /// How many fields a Join has.
+    // The kind and both sides come as the node has them. The same match of three arms gives the fields in `draft_join`.
     fn join_width(&self, kind: JoinKind, left: PlanId, right: PlanId) -> usize
         requires left { left.0 < plan_count self.now }
         requires right { right.0 < plan_count self.now }
@@ -42,6 +43,7 @@ impl Tables {
     }
 
     /// How many fields a Union has: as many as its first input.
+    // A slice of numbers from a caller: that all are there is a clause, as for one number.
     fn union_width(&self, inputs: &[PlanId]) -> usize
         requires some { 1 ≤ length inputs.now }
         requires present { all_below (plan_count self.now) (input_numbers inputs.now) ≡ true }
@@ -52,6 +54,7 @@ impl Tables {
     }
 
     /// How many nodes the trees of at most eight nodes have together.
+    // A slice of numbers from a caller: that all are there is a clause, as for one number.
     fn sizes_of(&self, inputs: &[PlanId]) -> u32
         requires few { length inputs.now ≤ 8 }
         requires present { all_below (plan_count self.now) (input_numbers inputs.now) ≡ true }
@@ -68,6 +71,7 @@ impl Asked<'_, '_> {
         ensures value { result ≡ length (new_fields self.entry) }
         ensures bound { result ≤ 128 }
     {
+        // One arm for each kind: the match says what the kinds mean.
         match self.node {
             NewNode::Table { names, .. } => count_names(names),
             NewNode::Projection { list, .. } => list.len(),

@@ -16,6 +16,7 @@ impl Tables {
     pub fn open(lexicon: Lexicon) -> Tables
         ensures { model_of result ≡ opened (functions_of lexicon) (text_of lexicon) }
     {
+        // Fillers from here: a Default of records would be a made-up record that all can see.
         let span = Span { start: 0, len: 0 };
         let run = Run { first: 0, count: 0 };
         let filler = PlanRecord {

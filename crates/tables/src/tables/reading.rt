@@ -16,6 +16,7 @@ use table::table::Table;
 use terms::node::{ExprId, PlanId, StoredField};
 use terms::terms::Terms;
 
+// That a node or an expression is there is a clause of each call: a number says nothing of the tables, which grow.
 impl Tables {
     /// How many nodes there are.
     pub fn len(&self) -> usize

@@ -1,9 +1,9 @@
 //! A node made anew on another input: its lists and its name are copied, and lent to the new node.
 ghost use Rattle.std.specs.Prelude.{◌≡◌, ◌<◌, true, [], ◌∷◌, length, nat_le, slice_set};
 ghost use Rattle.plan.specs.Calls.{all_below, between, union_of};
-ghost use Rattle.plan.specs.Model.{expr_in, inputs_at, plans_in};
+ghost use Rattle.plan.specs.Model.{inputs_at, plans_in};
 ghost use Rattle.plan.specs.Names.{good_name};
-ghost use Rattle.plan.specs.Plans.Plan.{aggregate, filter, join, limit, projection, sort, subquery_alias};
+ghost use Rattle.plan.specs.Plans.Plan.{aggregate, join, projection, sort, subquery_alias};
 ghost use Rattle.plan.specs.Swapping.{swap_tree};
 ghost use Rattle.tables.specs.Holding.{model_of, plan_count, tree_in, trees_in, view_in};
 ghost use Rattle.tables.specs.Remaking.{TreeMade};
@@ -19,6 +19,7 @@ use table::table::Table;
 use terms::node::{ExprId, PlanId, Span};
 use terms::terms::Terms;
 
+// One function for each kind that has lists or a name: they copy different lists and promise different trees.
 impl Tables {
     fn remake_projection(&mut self, input: PlanId, list: Run) -> Result<PlanId, Fault>
         requires input { input.0 < plan_count self.old }
@@ -33,14 +34,6 @@ impl Tables {
         })
     }
 
-    fn remake_filter(&mut self, input: PlanId, predicate: ExprId) -> Result<PlanId, Fault>
-        requires input { input.0 < plan_count self.old }
-        requires predicate { predicate.0 < length (view_in self.old).trees }
-        ensures { TreeMade (model_of self.old) (filter (expr_in (view_in self.old).trees predicate.0) (tree_in self.old input.0)) (input.0 ∷ []) result (model_of self.new) }
-    {
-        self.make(NewNode::Filter { input, predicate })
-    }
-
     fn remake_sort(&mut self, input: PlanId, keys: Run) -> Result<PlanId, Fault>
         requires input { input.0 < plan_count self.old }
         requires list { list_in (view_in self.old) keys ≡ true }
@@ -52,13 +45,6 @@ impl Tables {
             input,
             keys: own.as_slice(),
         })
-    }
-
-    fn remake_limit(&mut self, input: PlanId, skip: u32, count: u32) -> Result<PlanId, Fault>
-        requires { input.0 < plan_count self.old }
-        ensures { TreeMade (model_of self.old) (limit skip count (tree_in self.old input.0)) (input.0 ∷ []) result (model_of self.new) }
-    {
-        self.make(NewNode::Limit { input, skip, count })
     }
 
     fn remake_aggregate(&mut self, input: PlanId, groups: Run, totals: Run) -> Result<PlanId, Fault>
@@ -77,6 +63,7 @@ impl Tables {
         })
     }
 
+    // The kind and both sides come as the node has them: a struct of the three would be made for this call alone.
     fn remake_join(
         &mut self,
         kind: JoinKind,
@@ -141,12 +128,14 @@ impl Tables {
         requires input { input.0 < plan_count self.old }
         ensures { TreeMade (model_of self.old) (swap_tree (model_of self.old) p.0 position input.0) (slice_set (inputs_at (model_of self.old) p.0) position input.0) result (model_of self.new) }
     {
+        // One arm for each kind: the match says what the kinds mean.
         match self.record_of(p).node {
+            // Excluded by the contract.
             PlanNode::Table { .. } => Err(Question::Bounded.refusal()),
             PlanNode::Projection { list, .. } => self.remake_projection(input, list),
-            PlanNode::Filter { predicate, .. } => self.remake_filter(input, predicate),
+            PlanNode::Filter { predicate, .. } => self.make(NewNode::Filter { input, predicate }),
             PlanNode::Sort { keys, .. } => self.remake_sort(input, keys),
-            PlanNode::Limit { skip, count, .. } => self.remake_limit(input, skip, count),
+            PlanNode::Limit { skip, count, .. } => self.make(NewNode::Limit { input, skip, count }),
             PlanNode::Aggregate { groups, totals, .. } => {
                 self.remake_aggregate(input, groups, totals)
             }

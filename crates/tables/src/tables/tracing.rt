@@ -58,7 +58,7 @@ impl Tables {
         if self.holds_alias(p, name) {
             return Some(p);
         }
-        // A `for`: in `find_map` the function calls itself inside a closure, and that asks for more than a short answer.
+        // A `for`: in `find_map` the function calls itself inside a closure, and the check asks for a measure of both.
         let count = self.input_count(p);
         for k in 0..count {
             if let Some(q) = self.trace_from(self.input_at(p, k), name) {

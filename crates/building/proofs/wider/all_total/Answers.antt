@@ -6,16 +6,15 @@ use Rattle.plan.specs.Functions.{is_total}
 use Rattle.plan.specs.Model.{expr_in}
 use Rattle.tables.specs.Holding.{view_in}
 use Rattle.terms.specs.declared.node.ExprId.{ExprId}
-use Rattle.terms.proofs.Walks.{one_below}
-use Rattle.building.proofs.Searches.{every-mapped-twice}
+use Rattle.tables.proofs.Chains.{every-twice, item_below}
 use Rattle.building.proofs.wider.all_total.Goals as goal
 
 pub all-requires-clause-callable : goal.all-requires-clause-callable
 all-requires-clause-callable c =
-    serves_from_places (YieldsList-from_slice c.args.ids.now c.iter.ensures.rest) (λ x q r. search (rules, tests)) (λ x k lt e. omega (arith, one_below _ _ k x.now lt c.requires, ap (λ y. y.0) e))
+    serves_from_places (YieldsList-from_slice c.args.ids.now c.iter.ensures.rest) (λ x q r. search (rules, tests)) (λ x k lt e. omega (arith, item_below (λ y. y.0) _ _ k x.now lt c.requires, ap (λ y. y.0) e))
 
 pub returns : goal.returns
 returns c =
     let v = view_in c.args.tables.now in
     all_from_yields_List (λ (e : ExprId). is_total v.functions (expr_in v.trees e.0)) _ _ c.all.result c.all.ensures.ran (YieldsList-from_slice _ c.iter.ensures.rest) (λ x b q k. search (rules, tests))
-    ∙ every-mapped-twice (is_total v.functions) (expr_in v.trees) (λ e. e.0) c.args.ids.now
+    ∙ every-twice (is_total v.functions) (expr_in v.trees) (λ e. e.0) c.args.ids.now

@@ -1,4 +1,4 @@
-use Rattle.std.proofs.Common.{ap, ◌∙◌, arith, rules, tests}
+use Rattle.std.proofs.Common.{map, ap, ◌∙◌, arith, rules, tests}
 use Rattle.std.proofs.lemmas.Iterator.{YieldsList-from_slice}
 use Rattle.std.proofs.lemmas.Iterator.Adapters.{serves_from_places}
 use Rattle.std.proofs.lemmas.Iterator.Search.{any_from_yields_List}
@@ -6,9 +6,10 @@ use Rattle.plan.specs.Functions.{is_total}
 use Rattle.plan.specs.Model.{expr_in}
 use Rattle.tables.specs.Holding.{view_in}
 use Rattle.tables.specs.declared.node.Key.{Key}
-use Rattle.building.specs.Keys.{key_pair}
+use Rattle.terms.proofs.Walks.{any-moved}
+use Rattle.tables.proofs.Chains.{any-twice}
+use Rattle.building.specs.Keys.{key_pair, key_pairs}
 use Rattle.building.proofs.SortFacts.{given_below}
-use Rattle.building.proofs.Searches.{any-mapped-thrice}
 use Rattle.building.proofs.wider.any_key_total.Goals as goal
 
 pub any-requires-clause-callable : goal.any-requires-clause-callable
@@ -19,4 +20,5 @@ pub returns : goal.returns
 returns c =
     let v = view_in c.args.tables.now in
     any_from_yields_List (λ (k : Key). is_total v.functions (expr_in v.trees k.by.0)) _ _ c.any.result c.any.ensures.ran (YieldsList-from_slice _ c.iter.ensures.rest) (λ x b q k. search (rules, tests))
-    ∙ any-mapped-thrice (is_total v.functions) (expr_in v.trees) (λ k. k.0) key_pair c.args.keys.now
+    ∙ any-twice (λ i. is_total v.functions (expr_in v.trees i)) (λ k. k.0) key_pair c.args.keys.now
+    ∙ any-moved (is_total v.functions) (expr_in v.trees) (map (λ k. k.0) (key_pairs c.args.keys.now))

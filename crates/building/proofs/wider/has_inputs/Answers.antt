@@ -3,8 +3,8 @@ use Rattle.std.proofs.lemmas.Iterator.{YieldsList-from_slice}
 use Rattle.std.proofs.lemmas.Iterator.Search.{all_from_yields_List}
 use Rattle.terms.specs.declared.node.PlanId.{PlanId}
 use Rattle.plan.specs.Calls.{below}
+use Rattle.terms.proofs.Walks.{every-mapped}
 use Rattle.tables.specs.Holding.{plan_count}
-use Rattle.building.proofs.Searches.{every-mapped}
 use Rattle.building.proofs.wider.has_inputs.Goals as goal
 
 pub returns : goal.returns

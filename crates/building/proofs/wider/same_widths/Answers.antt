@@ -6,8 +6,7 @@ use Rattle.plan.specs.Model.{plan_in}
 use Rattle.plan.specs.Plans.{fields_of}
 use Rattle.terms.specs.declared.node.PlanId.{PlanId}
 use Rattle.tables.specs.Holding.{view_in, trees_in, fields_at, plan_count}
-use Rattle.tables.proofs.NodeFacts.{input-below}
-use Rattle.building.proofs.Searches.{every-mapped-twice}
+use Rattle.tables.proofs.Chains.{every-twice, item_below}
 use Rattle.building.proofs.WiderFacts.{equal-widths}
 use Rattle.building.proofs.wider.same_widths.Goals as goal
 
@@ -16,7 +15,7 @@ all-requires-clause-callable c =
     let n = plan_count c.args.tables.now in
     let ps = c.args.inputs.now in
     serves_from_places (YieldsList-from_slice ps c.iter.ensures.rest) (λ x q r. search (rules, tests)) (λ x k lt e.
-    (λ _ _ _ _ _ _ _. omega (arith, lt), λ _ _ _ _ _ _ _ _ _. (omega (arith, input-below n ps k x.now lt c.requires, ap (λ p. p.0) e), input-below n ps 0 (record { 0 = 0 }) (omega (arith, lt)) c.requires)))
+    (λ _ _ _ _ _ _ _. omega (arith, lt), λ _ _ _ _ _ _ _ _ _. (omega (arith, item_below (λ p. p.0) n ps k x.now lt c.requires, ap (λ p. p.0) e), item_below (λ p. p.0) n ps 0 (record { 0 = 0 }) (omega (arith, lt)) c.requires)))
 
 pub returns : goal.returns
 returns c =
@@ -24,5 +23,5 @@ returns c =
     let ps = c.args.inputs.now in
     let width = length (fields_at t (get_or ps 0 (record { 0 = 0 })).0) in
     all_from_yields_List (λ (p : PlanId). eqb (length (fields_at t p.0)) width) _ _ c.all.result c.all.ensures.ran (YieldsList-from_slice _ c.iter.ensures.rest) (λ x b q k. search (rules, tests))
-    ∙ every-mapped-twice (λ q. eqb (length (fields_of (view_in t).functions q)) width) (plan_in (trees_in t)) (λ p. p.0) ps
+    ∙ every-twice (λ q. eqb (length (fields_of (view_in t).functions q)) width) (plan_in (trees_in t)) (λ p. p.0) ps
     ∙ sym (equal-widths (view_in t).functions (trees_in t) ps (record { 0 = 0 }))

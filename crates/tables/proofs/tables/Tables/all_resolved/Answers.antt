@@ -5,16 +5,15 @@ use Rattle.std.proofs.lemmas.Iterator.Search.{all_from_yields_List}
 use Rattle.plan.specs.Fields.{resolved}
 use Rattle.plan.specs.Model.{expr_in}
 use Rattle.terms.specs.Spans.{stored_field}
-use Rattle.terms.proofs.Walks.{one_below}
 use Rattle.tables.specs.Holding.{view_in}
-use Rattle.tables.proofs.Chains.{every-twice}
+use Rattle.tables.proofs.Chains.{every-twice, item_below}
 use Rattle.tables.proofs.tables.Tables.all_resolved.Goals as goal
 
 pub all-requires-clause-callable : goal.all-requires-clause-callable
 all-requires-clause-callable c =
     let n = length (view_in c.args.self.now).trees in
     let ids = c.args.ids.now in
-    serves_from_places (YieldsList-from_slice ids cc) (λ x q k. search rules) (λ x k lt e. let h : x.now.0 < n = subst (λ y. y.0 < n) (sym e) (one_below n ids k x.now lt c.requires.present) in search rules)
+    serves_from_places (YieldsList-from_slice ids cc) (λ x q k. search rules) (λ x k lt e. let h : x.now.0 < n = subst (λ y. y.0 < n) (sym e) (item_below (λ y. y.0) n ids k x.now lt c.requires.present) in search rules)
 
 pub returns : goal.returns
 returns c =

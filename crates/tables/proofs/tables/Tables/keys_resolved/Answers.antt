@@ -5,15 +5,14 @@ use Rattle.std.proofs.lemmas.Iterator.Search.{all_from_yields_List}
 use Rattle.plan.specs.Fields.{resolved}
 use Rattle.plan.specs.Model.{expr_in}
 use Rattle.tables.specs.Holding.{view_in, fields_at}
-use Rattle.tables.proofs.Chains.{every-twice}
-use Rattle.tables.proofs.NodeFacts.{key_below}
+use Rattle.tables.proofs.Chains.{every-twice, item_below}
 use Rattle.tables.proofs.tables.Tables.keys_resolved.Goals as goal
 
 pub all-requires-clause-callable : goal.all-requires-clause-callable
 all-requires-clause-callable c =
     let n = length (view_in c.args.self.now).trees in
     let keys = c.args.keys.now in
-    serves_from_places (YieldsList-from_slice keys cc) (λ x q k. search rules) (λ x k lt e. let h : x.now.by.0 < n = subst (λ y. y.by.0 < n) (sym e) (key_below n keys k x.now lt c.requires.present) in search rules)
+    serves_from_places (YieldsList-from_slice keys cc) (λ x q k. search rules) (λ x k lt e. let h : x.now.by.0 < n = subst (λ y. y.by.0 < n) (sym e) (item_below (λ y. y.by.0) n keys k x.now lt c.requires.present) in search rules)
 
 pub returns : goal.returns
 returns c =

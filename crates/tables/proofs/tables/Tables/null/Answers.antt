@@ -1,8 +1,7 @@
-use Rattle.std.proofs.Common.{refl}
 use Rattle.plan.specs.Calls.Call.{make_literal}
 use Rattle.plan.specs.Terms.Literal.{null as null_literal}
 use Rattle.terms.specs.Views.{view_of}
-use Rattle.tables.proofs.Answers.{expr-answers, still-held}
+use Rattle.tables.proofs.Answers.{literal-answers, still-held}
 use Rattle.tables.proofs.tables.Tables.null.Goals as goal
 
 pub invariant_of-self : goal.invariant_of-self
@@ -10,4 +9,4 @@ invariant_of-self c = still-held c.args.self.now (view_of c.null.new.self) (make
 
 pub returns : goal.returns
 returns c =
-    expr-answers c.args.self.now (view_of c.null.new.self) (make_literal null_literal) (record { asks = refl; makes = refl; costs = refl; no-plan = refl; no-inputs = refl; number = refl; expressions = refl; plans = refl; fields = refl }) c.null.result c.null.ensures
+    literal-answers c.args.self.now (view_of c.null.new.self) null_literal c.null.result c.null.ensures

@@ -9,13 +9,14 @@ use Rattle.tables.specs.Holding.{view_in, trees_in, tree_in, fields_at, model_of
 use Rattle.tables.specs.Reading.{ReadsAs}
 use Rattle.tables.specs.Remaking.{TreeMade}
 use Rattle.tables.specs.Stored.{build_plan_node, node_inputs, run_in, run_numbers}
+use Rattle.tables.specs.declared.node.NewNode.TheVariants.{Filter, Limit}
 use Rattle.tables.specs.declared.node.PlanNode.{PlanNode}
 use Rattle.tables.specs.declared.node.PlanNode.TheVariants.{Union}
 use Rattle.tables.specs.declared.node.PlanRecord.{PlanRecord}
 use Rattle.tables.specs.declared.tables.Tables.{Tables}
 use Rattle.tables.proofs.Inputs.{as-node, run_long}
 use Rattle.tables.proofs.PlanFrames.{below_more}
-use Rattle.tables.proofs.Remaking.{set-one, set-left, set-right, join-left, join-right, swap-union, swap-made}
+use Rattle.tables.proofs.Remaking.{made-anew, set-one, set-left, set-right, join-left, join-right, swap-union, swap-made}
 use Rattle.tables.proofs.tables.Tables.remake.Goals as goal
 
 pub remake_union-requires : goal.remake_union-requires
@@ -47,7 +48,8 @@ returns-in-Projection c =
 
 pub returns-in-Filter : goal.returns-in-Filter
 returns-in-Filter c =
-    single c.args.self.now c.args.p.0 c.args.position c.args.input c.record_of.result c.record_of.ensures c.requires.position _ _ _ c.in-Filter.is refl refl _ _ c.remake_filter.ensures
+    single c.args.self.now c.args.p.0 c.args.position c.args.input c.record_of.result c.record_of.ensures c.requires.position _ _ _ c.in-Filter.is refl refl _ _
+    (made-anew c.args.self.now (Filter c.args.input c.in-Filter.predicate) _ _ tt refl refl c.make.result _ c.make.ensures)
 
 pub returns-in-Sort : goal.returns-in-Sort
 returns-in-Sort c =
@@ -55,7 +57,8 @@ returns-in-Sort c =
 
 pub returns-in-Limit : goal.returns-in-Limit
 returns-in-Limit c =
-    single c.args.self.now c.args.p.0 c.args.position c.args.input c.record_of.result c.record_of.ensures c.requires.position _ _ _ c.in-Limit.is refl refl _ _ c.remake_limit.ensures
+    single c.args.self.now c.args.p.0 c.args.position c.args.input c.record_of.result c.record_of.ensures c.requires.position _ _ _ c.in-Limit.is refl refl _ _
+    (made-anew c.args.self.now (Limit c.args.input c.in-Limit.skip c.in-Limit.count) _ _ tt refl refl c.make-in-Limit.result _ c.make-in-Limit.ensures)
 
 pub returns-in-Aggregate : goal.returns-in-Aggregate
 returns-in-Aggregate c =

@@ -5,15 +5,15 @@ use Rattle.std.proofs.lemmas.Iterator.Consumers.{sum_by_from_yields_List}
 use Rattle.plan.specs.Plans.{plan_size_of}
 use Rattle.terms.specs.declared.node.PlanId.{PlanId}
 use Rattle.tables.specs.Holding.{tree_in, plan_count}
+use Rattle.tables.proofs.Chains.{item_below}
 use Rattle.tables.proofs.Inputs.{sizes-added, sizes-small}
-use Rattle.tables.proofs.NodeFacts.{input-below}
 use Rattle.tables.proofs.tables.Tables.sizes_of.Goals as goal
 
 pub sum-requires-clause-can : goal.sum-requires-clause-can
 sum-requires-clause-can c =
     let n = plan_count c.args.self.now in
     let ps = c.args.inputs.now in
-    (tt, serves_from_places (YieldsList-from_slice ps cc) (λ x q k. search rules) (λ x k lt e. let h : x.now.0 < n = subst (λ y. y.0 < n) (sym e) (input-below n ps k x.now lt c.requires.present) in search rules))
+    (tt, serves_from_places (YieldsList-from_slice ps cc) (λ x q k. search rules) (λ x k lt e. let h : x.now.0 < n = subst (λ y. y.0 < n) (sym e) (item_below (λ y. y.0) n ps k x.now lt c.requires.present) in search rules))
 
 pub returns : goal.returns
 returns c =

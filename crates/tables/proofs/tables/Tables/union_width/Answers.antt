@@ -1,14 +1,15 @@
 use Rattle.std.proofs.Common.{sym, ◌∙◌}
 use Rattle.terms.specs.declared.node.PlanId.{PlanId}
 use Rattle.tables.specs.Holding.{view_in, trees_in, plan_count}
-use Rattle.tables.proofs.NodeFacts.{input-below, union-width}
+use Rattle.tables.proofs.Chains.{item_below}
+use Rattle.tables.proofs.NodeFacts.{union-width}
 use Rattle.tables.proofs.tables.Tables.union_width.Goals as goal
 
 abbrev zero : PlanId
 zero = record { 0 = 0 }
 
 pub width_of-requires : goal.width_of-requires
-width_of-requires c = input-below (plan_count c.args.self.now) c.args.inputs.now 0 zero c.requires.some c.requires.present
+width_of-requires c = item_below (λ p. p.0) (plan_count c.args.self.now) c.args.inputs.now 0 zero c.requires.some c.requires.present
 
 pub returns : goal.returns
 returns c =

@@ -1,4 +1,4 @@
-use Rattle.std.proofs.Common.{◌≡◌, ℤ, Result, refl, subst, w64}
+use Rattle.std.proofs.Common.{◌≡◌, ℤ, Result, subst, w64}
 use Rattle.std.proofs.lemmas.Int.{to_z-of_z}
 use Rattle.plan.specs.declared.fault.Fault.{Fault}
 use Rattle.terms.specs.declared.node.ExprId.{ExprId}
@@ -7,7 +7,7 @@ use Rattle.plan.specs.Terms.Literal.{whole as whole_literal}
 use Rattle.terms.specs.Building.{Answered}
 use Rattle.terms.specs.Views.{View, view_of}
 use Rattle.tables.specs.Holding.{view_in}
-use Rattle.tables.proofs.Answers.{expr-answers, still-held}
+use Rattle.tables.proofs.Answers.{literal-answers, still-held}
 use Rattle.tables.proofs.tables.Tables.whole.Goals as goal
 
 said : (v w : View) (r : Result ExprId Fault) (n m : ℤ) → m ≡ n → Answered v (make_literal (whole_literal m)) r w → Answered v (make_literal (whole_literal n)) r w
@@ -18,4 +18,4 @@ invariant_of-self c = still-held c.args.self.now (view_of c.whole.new.self) (mak
 
 pub returns : goal.returns
 returns c =
-    expr-answers c.args.self.now (view_of c.whole.new.self) (make_literal (whole_literal c.args.n)) (record { asks = refl; makes = refl; costs = refl; no-plan = refl; no-inputs = refl; number = refl; expressions = refl; plans = refl; fields = refl }) c.whole.result (said (view_in c.args.self.now) (view_of c.whole.new.self) c.whole.result c.args.n _ (to_z-of_z w64 c.args.n c.ranges.n) c.whole.ensures)
+    literal-answers c.args.self.now (view_of c.whole.new.self) (whole_literal c.args.n) c.whole.result (said (view_in c.args.self.now) (view_of c.whole.new.self) c.whole.result c.args.n _ (to_z-of_z w64 c.args.n c.ranges.n) c.whole.ensures)
