@@ -1,6 +1,6 @@
 -- What a node that is to be made names, and what its tree is asked, variant by variant.
 use Rattle.std.proofs.Common.{◌≡◌, ℕ, ◌<◌, ◌≤◌, true, ◌&&◌, leb, ◌⊎◌, List, [], ◌∷◌, ◌++◌, map, length, get_or, refl, ap, ◌∙◌, subst, inl, inr, arith, Bor}
-use Rattle.std.proofs.lemmas.List.{get_or-map, length-map}
+use Rattle.std.proofs.lemmas.List.{length-map}
 use Rattle.std.proofs.lemmas.Bool.{and_parts, ltb-true, leb-true}
 use Rattle.plan.specs.Terms.{Expr}
 use Rattle.plan.specs.Functions.{Functions}
@@ -13,7 +13,6 @@ use Rattle.plan.specs.declared.code.JoinKind.TheVariants.{Inner, Left, Right, Fu
 use Rattle.terms.specs.Views.{numbers_of}
 use Rattle.terms.specs.declared.node.ExprId.{ExprId}
 use Rattle.terms.specs.declared.node.PlanId.{PlanId}
-use Rattle.terms.proofs.Frames.{every-at}
 use Rattle.tables.specs.Holding.{view_in, plan_count}
 use Rattle.tables.specs.Making.{new_key, key_numbers, input_numbers, present, bounded}
 use Rattle.tables.specs.declared.node.NewNode.{NewNode}

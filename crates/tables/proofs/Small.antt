@@ -1,17 +1,14 @@
 -- Every expression of a book has a small tree and no overlong name.
-use Rattle.std.proofs.Common.{◌≡◌, ℕ, ◌<◌, true, ◌&&◌, leb, List, [], ◌∷◌, length, sym, refl, ap, ◌∙◌, ap₂, arith}
+use Rattle.std.proofs.Common.{◌≡◌, ℕ, ◌<◌, true, ◌&&◌, leb, List, [], ◌∷◌, length, sym, refl, ap, ◌∙◌, ap₂}
 use Rattle.std.proofs.lemmas.Bool.{and_parts, and_from, le-leb, ltb-true}
-use Rattle.plan.specs.Terms.{Expr}
-use Rattle.plan.specs.Terms.Expr.{literal, reference, alias, call}
 use Rattle.plan.specs.Plans.{plan_size_of}
 use Rattle.plan.specs.Fields.{every}
 use Rattle.plan.specs.Questions.{expressions_of, shown_expressions, small_tree, short_name, limited}
 use Rattle.plan.specs.Model.{expr_in, exprs_in, plans_in, no_expr}
-use Rattle.plan.specs.Calls.{below, all_below, rendered_bytes}
+use Rattle.plan.specs.Calls.{below, all_below}
 use Rattle.terms.specs.Acceptance.{acceptable}
-use Rattle.terms.specs.Build.{width_of}
 use Rattle.terms.specs.Views.{numbers_of}
-use Rattle.terms.proofs.Bounds.{small, width-le}
+use Rattle.terms.proofs.Bounds.{small}
 use Rattle.terms.proofs.Frames.{every-at, every_append}
 use Rattle.tables.specs.Asked.{functions_for, new_fields, new_tree}
 use Rattle.tables.specs.Holding.{view_in, trees_in}
