@@ -3,12 +3,11 @@ ghost use Rattle.tables.specs.Answering.{answered_plan};
 ghost use Rattle.tables.specs.Holding.{model_of, plan_count, view_in};
 ghost use Rattle.plan.specs.Calls.Call.{make_filter, make_limit, make_projection, make_subquery_alias, make_table};
 ghost use Rattle.plan.specs.Calls.{Answers, all_below, below, between, parts};
-ghost use Rattle.plan.specs.Fields.{any, every};
+ghost use Rattle.plan.specs.Fields.{every};
 ghost use Rattle.plan.specs.Functions.{is_total};
-ghost use Rattle.plan.specs.Model.{expr_in, exprs_in};
 ghost use Rattle.plan.specs.Names.{good_name};
 ghost use Rattle.terms.specs.Views.{numbers_of};
-ghost use Rattle.std.specs.Prelude.{◌≡◌, true, not, ◌&&◌, length, nat_le};
+ghost use Rattle.std.specs.Prelude.{◌≡◌, true, ◌&&◌, length, nat_le};
 
 use names::good_name;
 use names::parts::{count_names, good_names};

@@ -10,7 +10,6 @@ ghost use Rattle.terms.specs.Views.{numbers_of};
 
 use super::OpenBook;
 use plan::fault::Fault;
-use tables::tables::Tables;
 use terms::node::ExprId;
 
 impl OpenBook {

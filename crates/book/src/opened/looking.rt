@@ -20,7 +20,6 @@ ghost use Rattle.terms.specs.Views.{tree_for};
 use super::OpenBook;
 use plan::fault::Fault;
 use tables::node::{PlanRecord, Run};
-use tables::tables::Tables;
 use terms::node::{Declaration, Entry, ExprId, ExprNode, PlanId, Span, StoredField};
 use terms::terms::Terms;
 

@@ -12,7 +12,6 @@ use super::OpenBook;
 use building::{nodes, wider};
 use plan::fault::Fault;
 use tables::node::Key;
-use tables::tables::Tables;
 use terms::node::{ExprId, PlanId};
 
 impl OpenBook {

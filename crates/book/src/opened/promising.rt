@@ -6,7 +6,6 @@ ghost use Rattle.rewriting.specs.Book.{Law};
 
 use super::OpenBook;
 use plan::fault::{Fault, Question, ask};
-use tables::tables::Tables;
 use terms::node::PlanId;
 
 impl OpenBook {

@@ -6,7 +6,6 @@ ghost use Rattle.tables.specs.Answering.{answered_plan};
 
 use super::OpenBook;
 use plan::fault::Fault;
-use tables::tables::Tables;
 use terms::node::PlanId;
 
 impl OpenBook {

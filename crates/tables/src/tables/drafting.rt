@@ -1,16 +1,12 @@
 //! The fields of a node that is to be made, before they are stored.
-ghost use Rattle.std.specs.Prelude.{◌≡◌, ◌+◌, ◌<◌, ◌≤◌, true, [], ◌++◌, map, length, sum_by};
+ghost use Rattle.std.specs.Prelude.{◌≡◌, ◌<◌, [], sum_by};
 ghost use Rattle.tables.specs.Drafting.{DraftOf};
-ghost use Rattle.tables.specs.Holding.{fields_at, plan_count, tree_in, trees_in, view_in};
+ghost use Rattle.tables.specs.Holding.{fields_at, plan_count, view_in};
 ghost use Rattle.tables.specs.Asked.{functions_for, new_fields, new_tree};
 ghost use Rattle.tables.specs.Placing.{lent_given, lent_owner};
-ghost use Rattle.plan.specs.Calls.{all_below, parts, rendered_bytes, union_of};
-ghost use Rattle.plan.specs.Fields.{every};
-ghost use Rattle.plan.specs.Model.{exprs_in, plans_in};
-ghost use Rattle.plan.specs.Names.{good_name};
-ghost use Rattle.plan.specs.Plans.{column_of, fields_of, shown, shows_left, shows_right};
-ghost use Rattle.plan.specs.Questions.{joint_fields, shown_expressions};
-ghost use Rattle.plan.specs.Rendering.{field_of};
+ghost use Rattle.plan.specs.Calls.{rendered_bytes};
+ghost use Rattle.plan.specs.Plans.{fields_of, shown};
+ghost use Rattle.plan.specs.Questions.{shown_expressions};
 
 use super::Tables;
 use super::asked::Asked;
@@ -21,7 +17,6 @@ use names::parts::split_names;
 use plan::code::JoinKind;
 use table::table::Table;
 use terms::node::{PlanId, Span};
-use terms::terms::Terms;
 
 impl Tables {
     /// The fields that a join shows.

@@ -10,7 +10,6 @@ ghost use Rattle.terms.specs.Views.{numbers_of};
 use super::Tables;
 use plan::fault::Fault;
 use terms::node::ExprId;
-use terms::terms::Terms;
 
 impl Tables {
     /// The null literal.

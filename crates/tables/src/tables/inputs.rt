@@ -7,7 +7,6 @@ use super::Tables;
 use crate::node::PlanNode;
 use terms::listed::Listed;
 use terms::node::PlanId;
-use terms::terms::Terms;
 
 impl Tables {
     /// How many inputs a node has.

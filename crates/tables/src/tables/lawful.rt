@@ -1,6 +1,6 @@
 //! Whether the fields of a new node may stand together.
-ghost use Rattle.std.specs.Prelude.{◌≡◌, ◌<◌, true, ◌++◌};
-ghost use Rattle.tables.specs.Holding.{fields_at, plan_count, view_in};
+ghost use Rattle.std.specs.Prelude.{◌≡◌, ◌<◌, ◌++◌};
+ghost use Rattle.tables.specs.Holding.{fields_at, plan_count};
 ghost use Rattle.tables.specs.Asked.{functions_for, new_fields, new_tree};
 ghost use Rattle.tables.specs.Placing.{lent_given, lent_owner};
 ghost use Rattle.plan.specs.Fields.{lawful};
@@ -12,10 +12,9 @@ use super::asked::Asked;
 use crate::node::NewNode;
 use draft::building::push_stored;
 use draft::lawful::Source;
-use draft::word::{DraftField, Relation, Word};
+use draft::word::{DraftField, Word};
 use table::table::Table;
 use terms::node::PlanId;
-use terms::terms::Terms;
 
 /// What fills the places of a draft that are not used.
 // A filler from the caller: a Default of fields would be a made-up field that all can see.

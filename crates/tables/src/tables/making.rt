@@ -1,5 +1,5 @@
 //! How a node is made: the only way into the plan table.
-ghost use Rattle.std.specs.Prelude.{◌≡◌, ◌≤◌, true};
+ghost use Rattle.std.specs.Prelude.{◌≡◌, true};
 ghost use Rattle.tables.specs.Holding.{model_of};
 ghost use Rattle.tables.specs.Making.{NodeMade, NodeStored, bounded, outlay_for, present, tree_for, well_named};
 ghost use Rattle.tables.specs.Holding.{view_in};

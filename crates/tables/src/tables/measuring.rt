@@ -3,11 +3,10 @@ ghost use Rattle.std.specs.Prelude.{◌≡◌, ◌<◌, ◌≤◌, true, length,
 ghost use Rattle.tables.specs.Holding.{fields_at, plan_count, trees_in, view_in};
 ghost use Rattle.tables.specs.Asked.{functions_for, new_fields, new_tree};
 ghost use Rattle.tables.specs.Making.{input_numbers};
-ghost use Rattle.plan.specs.Calls.{all_below, parts, rendered_bytes, union_of};
-ghost use Rattle.plan.specs.Model.{expr_in, exprs_in, plans_in};
+ghost use Rattle.plan.specs.Calls.{all_below, rendered_bytes, union_of};
+ghost use Rattle.plan.specs.Model.{plans_in};
 ghost use Rattle.plan.specs.Plans.{fields_of, further_inputs, plan_size_of, plan_sizes_of, shown};
 ghost use Rattle.plan.specs.Questions.{shown_expressions};
-ghost use Rattle.terms.specs.Views.{numbers_of};
 
 use super::Tables;
 use super::asked::Asked;

@@ -1,7 +1,7 @@
 //! What is asked of nodes.
-ghost use Rattle.std.specs.Prelude.{◌≡◌, ◌+◌, ◌<◌, ◌≤◌, true, map, length};
+ghost use Rattle.std.specs.Prelude.{◌≡◌, ◌<◌, ◌≤◌, true, map, length};
 ghost use Rattle.plan.specs.Model.{expr_in, exprs_in, origin_at};
-ghost use Rattle.tables.specs.Holding.{fields_at, model_of, plan_count, tree_in, trees_in, view_in};
+ghost use Rattle.tables.specs.Holding.{fields_at, model_of, plan_count, tree_in, view_in};
 ghost use Rattle.tables.specs.Reading.{ReadsAs};
 ghost use Rattle.plan.specs.Calls.{all_below, below};
 ghost use Rattle.plan.specs.Fields.{any, every};
@@ -12,9 +12,7 @@ ghost use Rattle.terms.specs.Views.{numbers_of};
 
 use super::Tables;
 use crate::node::PlanRecord;
-use table::table::Table;
 use terms::node::{ExprId, PlanId, StoredField};
-use terms::terms::Terms;
 
 // That a node or an expression is there is a clause of each call: a number says nothing of the tables, which grow.
 impl Tables {

@@ -17,7 +17,6 @@ use plan::code::JoinKind;
 use plan::fault::{Fault, Question};
 use table::table::Table;
 use terms::node::{ExprId, PlanId, Span};
-use terms::terms::Terms;
 
 // One function for each kind that has lists or a name: they copy different lists and promise different trees.
 impl Tables {

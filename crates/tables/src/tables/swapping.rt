@@ -10,7 +10,6 @@ ghost use Rattle.tables.specs.Remaking.{OriginGiven};
 use super::Tables;
 use crate::node::PlanRecord;
 use plan::fault::{Fault, Question, ask};
-use table::table::Table;
 use terms::node::PlanId;
 
 /// Sets the origin of a record that is lent.

@@ -14,7 +14,6 @@ use names::good_name;
 use plan::fault::{Fault, Question, ask};
 use terms::listed::Listed;
 use terms::node::{ExprId, ExprNode, PlanId};
-use terms::terms::Terms;
 
 impl Tables {
     /// Whether an expression is an alias of this name.
