@@ -155,7 +155,7 @@ fn sort_keys(keys: &[Key]) -> Result<Table<SortKey, 16>, UnknownCode>
         by: ExprId(0),
         direction: Direction::AscendingNullsFirst,
     });
-    // A loop: `try_for_each` would push to the same table from a closure, and take two lines more to say it.
+    // A loop: in `try_for_each` a closure would push to the same table with the same `?`, and answer Ok besides.
     for key in keys {
         out.push(SortKey::try_from(*key)?);
     }

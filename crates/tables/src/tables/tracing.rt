@@ -57,7 +57,8 @@ impl Tables {
         if self.holds_alias(p, name) {
             return Some(p);
         }
-        // A `for`: in `find_map` the function calls itself inside a closure, and the check asks for a measure of both.
+        // A `for`: in `find_map` the function calls itself inside a closure. The check then asks for a measure of both, and
+        // it stays open in the closure that there is an input at `k`.
         let count = self.input_count(p);
         for k in 0..count {
             if let Some(q) = self.trace_from(self.input_at(p, k), name) {
