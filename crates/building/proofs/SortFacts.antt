@@ -13,7 +13,7 @@ use Rattle.plan.specs.Questions.{node_asked}
 use Rattle.plan.specs.Terms.{Expr}
 use Rattle.plan.specs.declared.fault.Question.TheVariants.{Present, Bounded, Placed}
 use Rattle.terms.specs.declared.node.PlanId.{PlanId}
-use Rattle.tables.proofs.Chains.{item_below}
+use Rattle.terms.proofs.Walks.{item_below}
 use Rattle.tables.specs.Holding.{view_in, trees_in, plan_count}
 use Rattle.building.specs.Keys.{key_pair, key_pairs, sort_key}
 use Rattle.tables.specs.Making.{new_key, key_numbers}

@@ -6,7 +6,7 @@ use Rattle.plan.specs.Functions.{is_total}
 use Rattle.plan.specs.Model.{expr_in}
 use Rattle.tables.specs.Holding.{view_in}
 use Rattle.terms.specs.declared.node.ExprId.{ExprId}
-use Rattle.tables.proofs.Chains.{every-twice, item_below}
+use Rattle.terms.proofs.Walks.{every-twice, item_below}
 use Rattle.building.proofs.wider.all_total.Goals as goal
 
 pub all-requires-clause-callable : goal.all-requires-clause-callable

@@ -6,8 +6,7 @@ use Rattle.plan.specs.Functions.{is_total}
 use Rattle.plan.specs.Model.{expr_in}
 use Rattle.tables.specs.Holding.{view_in}
 use Rattle.tables.specs.declared.node.Key.{Key}
-use Rattle.terms.proofs.Walks.{any-moved}
-use Rattle.tables.proofs.Chains.{any-twice}
+use Rattle.terms.proofs.Walks.{any-moved, any-twice}
 use Rattle.building.specs.Keys.{key_pair, key_pairs}
 use Rattle.building.proofs.SortFacts.{given_below}
 use Rattle.building.proofs.wider.any_key_total.Goals as goal

@@ -6,7 +6,7 @@ use Rattle.plan.specs.Model.{plan_in}
 use Rattle.plan.specs.Plans.{fields_of}
 use Rattle.terms.specs.declared.node.PlanId.{PlanId}
 use Rattle.tables.specs.Holding.{view_in, trees_in, fields_at, plan_count}
-use Rattle.tables.proofs.Chains.{every-twice, item_below}
+use Rattle.terms.proofs.Walks.{every-twice, item_below}
 use Rattle.building.proofs.WiderFacts.{equal-widths}
 use Rattle.building.proofs.wider.same_widths.Goals as goal
 

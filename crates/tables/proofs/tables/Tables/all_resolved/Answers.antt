@@ -6,7 +6,7 @@ use Rattle.plan.specs.Fields.{resolved}
 use Rattle.plan.specs.Model.{expr_in}
 use Rattle.terms.specs.Spans.{stored_field}
 use Rattle.tables.specs.Holding.{view_in}
-use Rattle.tables.proofs.Chains.{every-twice, item_below}
+use Rattle.terms.proofs.Walks.{every-twice, item_below}
 use Rattle.tables.proofs.tables.Tables.all_resolved.Goals as goal
 
 pub all-requires-clause-callable : goal.all-requires-clause-callable

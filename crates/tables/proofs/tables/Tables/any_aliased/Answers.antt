@@ -10,7 +10,7 @@ use Rattle.plan.specs.Tracing.{aliased}
 use Rattle.terms.specs.Entries.{entry_number}
 use Rattle.tables.specs.Holding.{view_in}
 use Rattle.tables.specs.Stored.{run_in}
-use Rattle.tables.proofs.Chains.{any-twice, item_below}
+use Rattle.terms.proofs.Walks.{any-twice, item_below}
 use Rattle.tables.proofs.tables.Tables.any_aliased.Goals as goal
 
 pub any-requires-clause-callable : goal.any-requires-clause-callable

@@ -5,7 +5,7 @@ use Rattle.std.proofs.lemmas.Iterator.Search.{all_from_yields_List}
 use Rattle.plan.specs.Fields.{resolved}
 use Rattle.plan.specs.Model.{expr_in}
 use Rattle.tables.specs.Holding.{view_in, fields_at}
-use Rattle.tables.proofs.Chains.{every-twice, item_below}
+use Rattle.terms.proofs.Walks.{every-twice, item_below}
 use Rattle.tables.proofs.tables.Tables.keys_resolved.Goals as goal
 
 pub all-requires-clause-callable : goal.all-requires-clause-callable

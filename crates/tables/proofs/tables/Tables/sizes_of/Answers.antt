@@ -5,7 +5,7 @@ use Rattle.std.proofs.lemmas.Iterator.Consumers.{sum_by_from_yields_List}
 use Rattle.plan.specs.Plans.{plan_size_of}
 use Rattle.terms.specs.declared.node.PlanId.{PlanId}
 use Rattle.tables.specs.Holding.{tree_in, plan_count}
-use Rattle.tables.proofs.Chains.{item_below}
+use Rattle.terms.proofs.Walks.{item_below}
 use Rattle.tables.proofs.Inputs.{sizes-added, sizes-small}
 use Rattle.tables.proofs.tables.Tables.sizes_of.Goals as goal
 

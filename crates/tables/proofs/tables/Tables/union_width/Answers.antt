@@ -1,7 +1,7 @@
 use Rattle.std.proofs.Common.{sym, ◌∙◌}
 use Rattle.terms.specs.declared.node.PlanId.{PlanId}
 use Rattle.tables.specs.Holding.{view_in, trees_in, plan_count}
-use Rattle.tables.proofs.Chains.{item_below}
+use Rattle.terms.proofs.Walks.{item_below}
 use Rattle.tables.proofs.NodeFacts.{union-width}
 use Rattle.tables.proofs.tables.Tables.union_width.Goals as goal
 
