@@ -5,7 +5,7 @@ ghost use Rattle.plan.specs.Values.{is_null_value};
 ghost use Rattle.value.specs.Meanings.{Shows, bytes_of, meaning_of, part_of, side_of};
 ghost use Rattle.std.specs.Prelude.{◌≡◌, option_copied};
 
-use plan::fault::{Fault, Question, Stage};
+use plan::fault::{Fault, Question};
 
 /// Which of the two lent texts a text value lies in.
 #[derive(Clone, Copy, PartialEq, Eq, Debug)]
@@ -17,6 +17,8 @@ pub enum Side {
 }
 
 /// A part of one of the two texts. One that reaches past the end of its text counts as null.
+// A start and a length: a slice would tie every row, and the scratch of evaluate, to one borrow of the book.
+// Not a Span: this crate stands beside names, not above it.
 #[derive(Clone, Copy, PartialEq, Eq, Debug)]
 pub struct Text {
     pub side: Side,
@@ -39,6 +41,7 @@ impl Text {
 }
 
 /// What a column of a row holds.
+// Not terms' Literal: a value's text lies in one of two texts, and a value may be a record.
 // No `==`: it would compare the places of texts, where values are equal by their bytes.
 #[derive(Clone, Copy, Debug)]
 pub enum Value {
@@ -61,14 +64,11 @@ pub fn shown<'a>(book: &'a [u8], row: &'a [u8], v: Value) -> Result<&'a [u8], Fa
         Value::Text(part) => part.within(book, row),
         _ => None,
     };
-    bytes.ok_or(Fault {
-        question: Question::Bounded,
-        stage: Stage::Call,
-        level: 0,
-    })
+    bytes.ok_or(Question::Bounded.refusal())
 }
 
 /// Whether a value counts as null.
+// Two slices, as in shown.
 pub fn is_null(book: &[u8], row: &[u8], v: Value) -> bool
     ensures { result ≡ is_null_value (meaning_of book.now row.now v) }
 {
