@@ -68,6 +68,7 @@ fn minus(a: Value, b: Value) -> Value
 }
 
 /// Whether two texts that are there have the same bytes.
+// The two texts as apply takes them, also in same and equal; a struct would be made here and taken apart for shown.
 fn same_text(book: &[u8], row: &[u8], a: Value, b: Value) -> bool
     ensures { result ≡ same_texts (meaning_of book.now row.now a) (meaning_of book.now row.now b) }
 {
@@ -78,6 +79,7 @@ fn same_text(book: &[u8], row: &[u8], a: Value, b: Value) -> bool
 }
 
 /// Whether two values are of one kind and equal.
+// No derive: texts are equal by their bytes, which lie in two lent slices.
 fn same(book: &[u8], row: &[u8], a: Value, b: Value) -> bool
     ensures { result ≡ alike (meaning_of book.now row.now a) (meaning_of book.now row.now b) }
 {
@@ -114,7 +116,7 @@ fn both(a: Value, b: Value) -> Value
 }
 
 /// 0 is equal, 1 plus, 2 minus, 3 `and`, 4 missing. A wrong count of arguments and any other number give null.
-#[derive(Clone, Copy)]
+#[derive(Clone, Copy, PartialEq, Eq, Debug)]
 pub struct Arithmetic;
 
 impl Engine for Arithmetic {

@@ -6,7 +6,7 @@ use super::Engine;
 use value::Value;
 
 /// Numbers below the split go to the first engine, the others, less the split, to the second.
-#[derive(Clone, Copy)]
+#[derive(Clone, Copy, PartialEq, Eq, Debug)]
 pub struct Pair<A, B> {
     pub split: u32,
     pub first: A,

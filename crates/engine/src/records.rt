@@ -33,6 +33,7 @@ pub struct Records<'a, 'n> {
 
 impl Records<'_, '_> {
     /// The value of the first entry of that record and name, else null.
+    // The two texts as apply takes them, also in get_field; a struct would be made here and taken apart for shown.
     fn field(&self, book: &[u8], row: &[u8], owner: u32, name: &[u8]) -> Value
         ensures { meaning_of book.now row.now result ≡ field_of book.now row.now self.now.entries.now owner name.now }
     {
