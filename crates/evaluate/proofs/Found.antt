@@ -3,6 +3,7 @@ use Rattle.std.proofs.Common.{◌≡◌, ℕ, suc, ◌+◌, ◌<◌, ◌≤◌, 
 use Rattle.std.specs.Str.{bytes_eq}
 use Rattle.std.specs.Option.{unwrap_or}
 use Rattle.std.specs.List.{position_or_len}
+use Rattle.std.proofs.lemmas.List.{length-map}
 use Rattle.std.proofs.lemmas.List.Recursion.{is_position_or_len}
 use Rattle.std.proofs.lemmas.List.Sums.{prefix_len-le-length, sum_by-cons}
 use Rattle.std.proofs.lemmas.Bool.{and_parts, eqb-true, false≢true, ltb-false}
@@ -75,6 +76,8 @@ resolves-found fs (qualified q) n h =
     let r : Field = record { qualifier = qualified q; name = n } in
     found r fs (sym (any-alike (same_field r) (may_mean r) (by_field_lem q n) fs) ∙ h)
 
-pub reference-found : (fs : List Field) (e : Expr) (r : Field) → e ≡ reference r → resolved fs e ≡ true → seek r fs < length fs
-reference-found fs e r h k =
-    resolves-found fs r.qualifier r.name (and_parts (resolves fs r) true (sym (ap (resolved fs) h) ∙ k)).0
+-- so does a reference of the tables, among the fields that are stored
+pub reference-found : {X : Type 0} (f : X → Field) (xs : List X) {e : Expr} {r : Field} → e ≡ reference r → resolved (map f xs) e ≡ true → seek r (map f xs) < length xs
+reference-found f xs {r = r} h k =
+    let fs = map f xs in
+    omega (arith, resolves-found fs r.qualifier r.name (and_parts (resolves fs r) true (sym (ap (resolved fs) h) ∙ k)).0, length-map xs f)

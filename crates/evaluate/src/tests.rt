@@ -9,6 +9,7 @@ use engine::records::{Entry, Records};
 use plan::fault::Fault;
 use std::test::Fail;
 use terms::node::{ExprId, PlanId};
+use value::Value::{Null, Real, Record, Truth, Whole};
 use value::{Side, Text, Value};
 
 /// The number of a total.
@@ -40,14 +41,14 @@ fn value_at(book: &OpenBook, e: ExprId, a: Value, b: Value) -> Result<Value, Fau
     let entries = [Entry {
         owner: 7,
         name: b"age",
-        value: Value::Whole(41),
+        value: Whole(41),
     }];
     let engine = Pair {
         split: 5,
         first: Arithmetic,
         second: Records { entries: &entries },
     };
-    let mut scratch = [Value::Null; 256];
+    let mut scratch = [Null; 256];
     evaluate(book, &engine, e, PlanId(0), &[a, b], b"xage", &mut scratch)
 }
 
@@ -59,27 +60,15 @@ fn part(start: u32, len: u32) -> Value {
     })
 }
 
-fn is_null(v: Value) -> bool {
-    matches!(v, Value::Null)
-}
-
-fn is_whole(v: Value, n: i64) -> bool {
-    matches!(v, Value::Whole(m) if m == n)
-}
-
-fn is_truth(v: Value, b: bool) -> bool {
-    matches!(v, Value::Truth(t) if t == b)
-}
-
 #[test]
 fn sums(rt: HostRuntime) -> Result<(), Fail> {
     let mut book = opened(false)?;
     let sum = of_columns(&mut book, 1)?;
-    let least = Value::Whole(i64::MIN);
-    assert!(rt; is_whole(value_at(&book, sum, Value::Whole(2), Value::Whole(50))?, 52));
-    assert!(rt; is_null(value_at(&book, sum, Value::Whole(i64::MAX), Value::Whole(1))?));
-    assert!(rt; is_null(value_at(&book, sum, least, Value::Whole(-1))?));
-    assert!(rt; is_whole(value_at(&book, sum, least, Value::Whole(0))?, i64::MIN));
+    let least = Whole(i64::MIN);
+    assert!(rt; matches!(value_at(&book, sum, Whole(2), Whole(50))?, Whole(52)));
+    assert!(rt; matches!(value_at(&book, sum, Whole(i64::MAX), Whole(1))?, Null));
+    assert!(rt; matches!(value_at(&book, sum, least, Whole(-1))?, Null));
+    assert!(rt; matches!(value_at(&book, sum, least, Whole(0))?, Whole(i64::MIN)));
     Ok(())
 }
 
@@ -90,18 +79,8 @@ fn arguments_keep_their_order(rt: HostRuntime) -> Result<(), Fail> {
     let named = book.alias(inner, b"a", None)?;
     let b = book.reference(b"b", None)?;
     let outer = book.call(2, &[b, named])?;
-    assert!(rt;
-        is_whole(
-            value_at(&book, inner, Value::Whole(2), Value::Whole(50))?,
-            -48,
-        )
-    );
-    assert!(rt;
-        is_whole(
-            value_at(&book, outer, Value::Whole(2), Value::Whole(50))?,
-            98,
-        )
-    );
+    assert!(rt; matches!(value_at(&book, inner, Whole(2), Whole(50))?, Whole(-48)));
+    assert!(rt; matches!(value_at(&book, outer, Whole(2), Whole(50))?, Whole(98)));
     Ok(())
 }
 
@@ -113,13 +92,8 @@ fn real_literals(rt: HostRuntime) -> Result<(), Fail> {
     let like_zero = book.call(0, &[a, zero])?;
     let odd = book.real(0.0 / 0.0)?;
     let like_odd = book.call(0, &[odd, odd])?;
-    assert!(rt;
-        is_truth(
-            value_at(&book, like_zero, Value::Real(0.0), Value::Null)?,
-            true,
-        )
-    );
-    assert!(rt; is_truth(value_at(&book, like_odd, Value::Null, Value::Null)?, false));
+    assert!(rt; matches!(value_at(&book, like_zero, Real(0.0), Null)?, Truth(true)));
+    assert!(rt; matches!(value_at(&book, like_odd, Null, Null)?, Truth(false)));
     Ok(())
 }
 
@@ -131,10 +105,10 @@ fn text_literals(rt: HostRuntime) -> Result<(), Fail> {
     let like_age = book.call(0, &[a, age])?;
     let lost = book.call(4, &[a])?;
     let field = book.call(5, &[a, age])?;
-    assert!(rt; is_truth(value_at(&book, like_age, part(1, 3), Value::Null)?, true));
-    assert!(rt; is_null(value_at(&book, like_age, part(2, 3), Value::Null)?));
-    assert!(rt; is_truth(value_at(&book, lost, part(2, 3), Value::Null)?, true));
-    assert!(rt; is_whole(value_at(&book, field, Value::Record(7), Value::Null)?, 41));
+    assert!(rt; matches!(value_at(&book, like_age, part(1, 3), Null)?, Truth(true)));
+    assert!(rt; matches!(value_at(&book, like_age, part(2, 3), Null)?, Null));
+    assert!(rt; matches!(value_at(&book, lost, part(2, 3), Null)?, Truth(true)));
+    assert!(rt; matches!(value_at(&book, field, Record(7), Null)?, Whole(41)));
     Ok(())
 }
 
@@ -166,7 +140,7 @@ fn refuses(
 }
 
 fn is_kept(scratch: &[Value]) -> bool {
-    scratch.iter().all(|v| is_whole(*v, 3))
+    scratch.iter().all(|v| matches!(*v, Whole(3)))
 }
 
 #[test]
@@ -177,10 +151,10 @@ fn refusals(rt: HostRuntime) -> Result<(), Fail> {
     let named = book.alias(sum, b"sum", None)?;
     let c = book.reference(b"c", None)?;
     let inside = book.call(4, &[c])?;
-    let two = [Value::Null, Value::Null];
-    let one = [Value::Null];
-    let mut enough = [Value::Whole(3); 256];
-    let mut short = [Value::Whole(3); 255];
+    let two = [Null, Null];
+    let one = [Null];
+    let mut enough = [Whole(3); 256];
+    let mut short = [Whole(3); 255];
     assert!(rt; refuses(&book, 5, 0, &two, &mut enough, 1));
     assert!(rt; refuses(&book, a.0, 1, &one, &mut short, 1));
     assert!(rt; refuses(&book, a.0, 0, &one, &mut enough, 3));

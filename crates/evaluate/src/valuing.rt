@@ -9,15 +9,16 @@ ghost use Rattle.terms.specs.Spans.{literal_at, literal_in, stored_field, stored
 ghost use Rattle.terms.specs.Views.{count, tree_of, view_of};
 ghost use Rattle.value.specs.Meanings.{meaning_of};
 
-use crate::seeking::seek;
 use engine::Engine;
 use plan::fault::{Fault, Question, ask};
 use std::num::{f64_from_bits_with_nan, f64_to_bits_with_nan};
+use terms::listed::Listed;
 use terms::node::{ExprId, ExprNode, Literal, StoredField};
 use terms::terms::Terms;
 use value::{Side, Text, Value};
 
 /// The value of a literal; a real is what its bits tell.
+// No From: neither type is this crate's.
 fn constant(v: Literal) -> Value
     ensures { (book row : List ℕ) → literal_in book v ≡ true → meaning_of book row result ≡ literal_value (literal_at book v) }
 {
@@ -53,19 +54,18 @@ impl Row<'_> {
         requires room { size_of (tree_of self.now.terms.now e.0) ≤ length scratch.old }
         ensures { meaning_of (view_of self.now.terms.now).bytes self.now.text.now result ≡ value_in (bare (E.Engine.meaning engine.now) (view_of self.now.terms.now).bytes self.now.text.now) (map (stored_field (view_of self.now.terms.now).bytes) self.now.fields.now) (map (meaning_of (view_of self.now.terms.now).bytes self.now.text.now) self.now.values.now) (tree_of self.now.terms.now e.0) }
     {
+        // One arm for each kind: the match says what the kinds mean.
         match self.terms.node(e) {
             ExprNode::Constant(v) => constant(v),
-            ExprNode::Reference(field) => self.values[seek(self.terms, self.fields, field)],
+            ExprNode::Reference(field) => self.values[self.seek(field)],
             ExprNode::Alias { inner, .. } => self.value_of(engine, inner, scratch),
             ExprNode::Call {
                 function,
                 arguments,
             } => {
                 let (front, rest) = scratch.split_at_mut(arguments.count as usize);
-                // By place: an entry of a run may be of another kind, and `listed` reads an expression.
-                for i in 0..arguments.count {
-                    let arg = self.terms.listed(arguments, i);
-                    front[i as usize] = self.value_of(engine, arg, rest);
+                for (i, entry) in self.terms.entries(arguments).iter().enumerate() {
+                    front[i] = self.value_of(engine, ExprId::read(*entry), rest);
                 }
                 engine.apply(self.terms.bytes(), self.text, function as u32, front)
             }

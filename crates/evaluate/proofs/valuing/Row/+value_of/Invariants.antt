@@ -1,7 +1,7 @@
 use Rattle.std.proofs.Common.{◌≡◌, map, take}
 use Rattle.plan.specs.Model.{expr_in}
 use Rattle.rows.specs.Rows.{value_in}
-use Rattle.terms.specs.Build.{numbers_in}
+use Rattle.terms.specs.Entries.{entry_number}
 use Rattle.terms.specs.Spans.{stored_field}
 use Rattle.terms.specs.Views.{view_of}
 use Rattle.value.specs.Meanings.{meaning_of}
@@ -16,4 +16,4 @@ invariant-loop-i g l =
     let v = view_of l.self.terms.now in
     let m = meaning_of v.bytes l.self.text.now in
     let w = bare (g.E.Engine.meaning l.engine) v.bytes l.self.text.now in
-    map m (take l.i l.front) ≡ map (value_in w (map (stored_field v.bytes) l.self.fields.now) (map m l.self.values.now)) (take l.i (map (expr_in v.trees) (numbers_in v.entries l.arguments.first l.arguments.count)))
+    map m (take l.i l.front) ≡ map (value_in w (map (stored_field v.bytes) l.self.fields.now) (map m l.self.values.now)) (take l.i (map (expr_in v.trees) (map entry_number l.entry-items)))
