@@ -2,6 +2,7 @@
 use book::declaration::Book;
 use book::opened::OpenBook;
 use plan::fault::Fault;
+use tables::node::Key;
 use terms::node::ExprId;
 
 /// Function 0 has no argument, 1 to 4 have as many as their number; none is a total.
@@ -52,6 +53,11 @@ pub fn short_names() -> [u8; 129] {
         out[2 * (i as usize)] = 48 + i;
     }
     out
+}
+
+/// A key in the first direction.
+pub fn key(by: ExprId) -> Key {
+    Key { by, direction: 0 }
 }
 
 /// Totals of the first 17 expressions of a list.

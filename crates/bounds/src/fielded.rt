@@ -1,7 +1,6 @@
 //! Questions 6 and 7: references resolve, and fields can stand together.
-use crate::answers::{TOTAL, has_counts, opened, refused_with};
+use crate::answers::{TOTAL, has_counts, key, opened, refused_with};
 use std::test::Fail;
-use tables::node::Key;
 use terms::node::PlanId;
 
 #[test]
@@ -88,30 +87,10 @@ fn keys_and_totals_resolve_too(rt: HostRuntime) -> Result<(), Fail> {
     let sum_a = book.call(TOTAL, &[a])?;
     let sum_b = book.call(TOTAL, &[b])?;
     let t = book.table(b"t", b"a")?;
-    assert!(rt;
-        refused_with(
-            book.sort(
-                t,
-                &[Key {
-                    by: b,
-                    direction: 0,
-                }],
-            ),
-            6,
-        )
-    );
+    assert!(rt; refused_with(book.sort(t, &[key(b)]), 6));
     assert!(rt; refused_with(book.aggregate(t, &[a], &[sum_b]), 6));
     assert!(rt; has_counts(&book, 4, 1));
-    assert_eq!(rt;
-        book.sort(
-            t,
-            &[Key {
-                by: a,
-                direction: 0,
-            }],
-        )?,
-        PlanId(1)
-    );
+    assert_eq!(rt; book.sort(t, &[key(a)])?, PlanId(1));
     assert_eq!(rt; book.aggregate(t, &[a], &[sum_a])?, PlanId(2));
     Ok(())
 }

@@ -1,7 +1,6 @@
 //! Question 4: totals stand among the totals of an Aggregate, and nothing else does.
-use crate::answers::{TOTAL, has_counts, opened, refused_with};
+use crate::answers::{TOTAL, has_counts, key, opened, refused_with};
 use std::test::Fail;
-use tables::node::Key;
 use terms::node::{ExprId, PlanId};
 
 #[test]
@@ -30,18 +29,7 @@ fn a_total_is_in_no_other_list(rt: HostRuntime) -> Result<(), Fail> {
     assert!(rt; refused_with(book.filter(t, sum), 4));
     assert!(rt; refused_with(book.filter(t, named), 4));
     assert!(rt; refused_with(book.projection(t, &[e, sum]), 4));
-    assert!(rt;
-        refused_with(
-            book.sort(
-                t,
-                &[Key {
-                    by: sum,
-                    direction: 0,
-                }],
-            ),
-            4,
-        )
-    );
+    assert!(rt; refused_with(book.sort(t, &[key(sum)]), 4));
     assert!(rt; refused_with(book.join(0, t, u, &[sum]), 4));
     assert!(rt; has_counts(&book, 3, 2));
     assert_eq!(rt; book.filter(t, e)?, PlanId(2));

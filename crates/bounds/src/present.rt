@@ -1,7 +1,6 @@
 //! Question 1: what a call names by number stands in the book.
-use crate::answers::{TOTAL, has_counts, opened, refused_with};
+use crate::answers::{TOTAL, has_counts, key, opened, refused_with};
 use std::test::Fail;
-use tables::node::Key;
 use terms::node::{ExprId, PlanId};
 
 #[test]
@@ -39,18 +38,7 @@ fn a_node_takes_the_last_node_and_none_after_it(rt: HostRuntime) -> Result<(), F
     assert!(rt; refused_with(book.limit(PlanId(1), 0, 0), 1));
     assert!(rt; refused_with(book.filter(PlanId(1), e), 1));
     assert!(rt; refused_with(book.projection(PlanId(1), &[e]), 1));
-    assert!(rt;
-        refused_with(
-            book.sort(
-                PlanId(1),
-                &[Key {
-                    by: e,
-                    direction: 0,
-                }],
-            ),
-            1,
-        )
-    );
+    assert!(rt; refused_with(book.sort(PlanId(1), &[key(e)]), 1));
     assert!(rt; refused_with(book.subquery_alias(PlanId(1), b"s"), 1));
     assert!(rt; has_counts(&book, 1, 1));
     assert_eq!(rt; book.limit(PlanId(0), 0, 0)?, PlanId(1));
@@ -84,34 +72,14 @@ fn a_node_takes_the_last_expression_and_none_after_it(rt: HostRuntime) -> Result
     let u = book.table(b"u", b"b")?;
     assert!(rt; refused_with(book.filter(t, no), 1));
     assert!(rt; refused_with(book.projection(t, &[e, no]), 1));
-    assert!(rt;
-        refused_with(
-            book.sort(
-                t,
-                &[Key {
-                    by: no,
-                    direction: 0,
-                }],
-            ),
-            1,
-        )
-    );
+    assert!(rt; refused_with(book.sort(t, &[key(no)]), 1));
     assert!(rt; refused_with(book.aggregate(t, &[no], &[]), 1));
     assert!(rt; refused_with(book.aggregate(t, &[e], &[no]), 1));
     assert!(rt; refused_with(book.join(0, t, u, &[no]), 1));
     assert!(rt; has_counts(&book, 1, 2));
     assert_eq!(rt; book.filter(t, e)?, PlanId(2));
     assert_eq!(rt; book.projection(t, &[e])?, PlanId(3));
-    assert_eq!(rt;
-        book.sort(
-            t,
-            &[Key {
-                by: e,
-                direction: 0,
-            }],
-        )?,
-        PlanId(4)
-    );
+    assert_eq!(rt; book.sort(t, &[key(e)])?, PlanId(4));
     assert_eq!(rt; book.aggregate(t, &[e], &[])?, PlanId(5));
     assert_eq!(rt; book.join(0, t, u, &[e])?, PlanId(6));
     Ok(())

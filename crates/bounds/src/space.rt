@@ -1,8 +1,7 @@
 //! Question 9: each table has room to its last place, and none after it.
-use crate::answers::{first, has_counts, opened, refused_with, short_names};
+use crate::answers::{first, has_counts, key, opened, refused_with, short_names};
 use book::declaration::Book;
 use std::test::Fail;
-use tables::node::Key;
 use terms::node::{ExprId, PlanId};
 
 #[test]
@@ -131,13 +130,9 @@ fn the_lists_of_nodes_take_entries(rt: HostRuntime) -> Result<(), Fail> {
     }
     let _ = book.call(1, &[e])?;
     let t = book.table(b"t", b"a")?;
-    let key = Key {
-        by: e,
-        direction: 0,
-    };
-    assert!(rt; refused_with(book.sort(t, &[key; 16]), 9));
-    assert_eq!(rt; book.sort(t, &[key; 15])?, PlanId(1));
-    assert!(rt; refused_with(book.sort(t, &[key]), 9));
+    assert!(rt; refused_with(book.sort(t, &[key(e); 16]), 9));
+    assert_eq!(rt; book.sort(t, &[key(e); 15])?, PlanId(1));
+    assert!(rt; refused_with(book.sort(t, &[key(e)]), 9));
     assert!(rt; refused_with(book.projection(t, &[e]), 9));
     assert!(rt; refused_with(book.aggregate(t, &[e], &[]), 9));
     assert!(rt; refused_with(book.union(&[t]), 9));
