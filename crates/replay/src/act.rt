@@ -4,6 +4,7 @@ use tables::node::Key;
 use terms::node::{ExprId, PlanId};
 
 /// A call of an open book, with what the caller gives.
+// Not NewNode: a call as a value also makes expressions and swaps, and gives its codes as numbers.
 #[derive(Clone, Copy)]
 pub enum Act<'a> {
     Null,

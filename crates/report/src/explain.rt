@@ -58,6 +58,7 @@ impl<P: Print> Printer<'_, P> {
         if levels == 0 {
             return print!(self.rt; "..");
         }
+        // One arm for each kind: the match says what the kinds mean.
         match self.book.expr(e) {
             Err(_) => print!(self.rt; "?"),
             Ok(ExprNode::Constant(l)) => self.show_literal(l),
@@ -168,6 +169,7 @@ impl<P: Print> Printer<'_, P> {
             return Ok(());
         };
         self.show_node(p, record, levels)?;
+        // One arm for each count of inputs: none, one, two, or a list.
         match record.node {
             PlanNode::Table { .. } => Ok(()),
             PlanNode::Projection { input, .. }

@@ -42,8 +42,9 @@ fn declare(rt: &impl Print, book: &mut Book) -> io::Result<()> {
     )
 }
 
-// `rt` and `book` stay two parameters here: in a struct each call would read `made(self.rt, .., self.book.limit(..))`.
 /// A hundred rows of the log.
+// `rt` and `book` stay two parameters, here and below: in a struct each call would read
+// `made(self.rt, .., self.book.limit(..))`, since `self.made(.., self.book.limit(..))` borrows the struct twice.
 fn hundred_rows(rt: &impl Print, book: &mut OpenBook) -> anyhow::Result<PlanId> {
     let log = made(
         rt,
