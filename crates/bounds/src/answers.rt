@@ -56,7 +56,7 @@ pub fn short_names() -> [u8; 129] {
 }
 
 /// A key in the first direction.
-pub fn key(by: ExprId) -> Key {
+pub(crate) fn key(by: ExprId) -> Key {
     Key { by, direction: 0 }
 }
 
