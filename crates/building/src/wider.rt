@@ -20,7 +20,7 @@ use tables::node::{Key, NewNode, SortKey};
 use tables::tables::Tables;
 use terms::node::{ExprId, PlanId};
 
-// Free functions, as in `nodes`.
+// Free functions, as in `nodes`. That all of a slice of numbers are there is a clause, as for one number.
 
 /// Whether every one of some expressions is a total.
 fn all_total(tables: &Tables, ids: &[ExprId]) -> bool
@@ -119,7 +119,6 @@ fn same_width(tables: &Tables, a: PlanId, b: PlanId) -> bool
 }
 
 /// Whether some nodes have as many fields as the first.
-// A slice of numbers from a caller: that all are there is a clause, as for one number.
 fn same_widths(tables: &Tables, inputs: &[PlanId]) -> bool
     requires { all_below (plan_count tables.now) (input_numbers inputs.now) ≡ true }
     ensures { result ≡ equal_widths (view_in tables.now).functions (plans_in (trees_in tables.now) (input_numbers inputs.now)) }
@@ -128,7 +127,6 @@ fn same_widths(tables: &Tables, inputs: &[PlanId]) -> bool
 }
 
 /// Whether there are 1 to 8 nodes, with as many fields each.
-// A slice of numbers from a caller: that all are there is a clause, as for one number.
 fn are_alike(tables: &Tables, inputs: &[PlanId]) -> bool
     requires { all_below (plan_count tables.now) (input_numbers inputs.now) ≡ true }
     ensures { result ≡ (between 1 8 (length (input_numbers inputs.now)) && equal_widths (view_in tables.now).functions (plans_in (trees_in tables.now) (input_numbers inputs.now))) }

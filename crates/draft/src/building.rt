@@ -11,8 +11,8 @@ use table::table::Table;
 use terms::node::{ExprId, Span, StoredField};
 use terms::terms::Terms;
 
-// Room is a clause of each: it is a fact of the table and the items together.
 /// Adds stored fields as they are.
+// Room is a clause of each: a fact of the table and the items together. That all numbers are there is one, as in `reading`.
 pub fn push_stored(out: &mut Table<DraftField, 128>, fields: &[StoredField])
     requires { length out.old + length fields.now ≤ 128 }
     ensures { out.new ≡ out.old ++ map as_stored fields.now }

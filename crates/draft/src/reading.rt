@@ -48,8 +48,8 @@ fn rendered_len(terms: &Terms, e: ExprId) -> u32
     }
 }
 
-// Numbers from a caller: that all are there is a clause, as in `terms`.
 /// Whether each field of some expressions that takes its name by rendering has at most 255 bytes.
+// Numbers from a caller: that all are there is a clause, as in `terms`.
 pub fn has_short_names(terms: &Terms, ids: &[ExprId]) -> bool
     requires { all_below (count terms.now) (numbers_of ids.now) ≡ true }
     ensures { result ≡ every (short_name (view_of terms.now).functions) (exprs_in (view_of terms.now).trees (numbers_of ids.now)) }
@@ -58,6 +58,7 @@ pub fn has_short_names(terms: &Terms, ids: &[ExprId]) -> bool
 }
 
 /// How many bytes the rendered names of some expressions take together.
+// As in `has_short_names`.
 pub fn rendered_bytes(terms: &Terms, ids: &[ExprId]) -> usize
     requires present { all_below (count terms.now) (numbers_of ids.now) ≡ true }
     requires few { length ids.now ≤ 64 }

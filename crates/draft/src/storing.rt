@@ -86,6 +86,7 @@ pub fn store(
     requires bytes { length (view_of terms.old).bytes + draft_bytes (view_of terms.old) draft.now ≤ 16384 }
     ensures { StoredAll (view_of terms.old) (word_of (view_of terms.old).bytes lent.owner) (word_of (view_of terms.old).bytes lent.given) draft.now fields.old (view_of terms.new) fields.new }
 {
+    // A `for`: `push_each` takes an `Fn`, and storing a field writes the text.
     for field in draft {
         fields.push(store_field(terms, lent, *field));
     }

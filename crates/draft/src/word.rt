@@ -2,6 +2,7 @@
 use terms::node::{ExprId, Span};
 
 /// A word, by where it is.
+// No `==`: words are equal by their bytes, which `same_word` compares.
 #[derive(Clone, Copy)]
 pub enum Word {
     /// A part of the book's text.

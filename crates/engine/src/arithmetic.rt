@@ -127,7 +127,7 @@ impl Engine for Arithmetic {
     ghost nulls = { λ _ _ _. arithmetic-nulls };
 
     fn apply(&self, book: &[u8], row: &[u8], number: u32, args: &[Value]) -> Value {
-        // A rule of the project: functions are known by number.
+        // A rule of the project: functions are known by number. An enum of them would be a second match, from number to case.
         match (number, args) {
             (0, &[a, b]) => equal(book, row, a, b),
             (1, &[a, b]) => plus(a, b),

@@ -2,7 +2,7 @@
 ghost use Rattle.engine.specs.Records.{field_of, get_field, is_of, records};
 ghost use Rattle.engine.specs.RecordsLaw.{records-nulls};
 ghost use Rattle.value.specs.Meanings.{meaning_of};
-ghost use Rattle.std.specs.Prelude.{◌≡◌, true};
+ghost use Rattle.std.specs.Prelude.{◌≡◌, ℕ, true, List};
 
 use super::Engine;
 use value::{Value, shown};
@@ -33,9 +33,8 @@ pub struct Records<'a, 'n> {
 
 impl Records<'_, '_> {
     /// The value of the first entry of that record and name, else null.
-    // The two texts as apply takes them, also in get_field; a struct would be made here and taken apart for shown.
-    fn field(&self, book: &[u8], row: &[u8], owner: u32, name: &[u8]) -> Value
-        ensures { meaning_of book.now row.now result ≡ field_of book.now row.now self.now.entries.now owner name.now }
+    fn field(&self, owner: u32, name: &[u8]) -> Value
+        ensures { (book row : List ℕ) → meaning_of book row result ≡ field_of book row self.now.entries.now owner name.now }
     {
         self.entries
             .iter()
@@ -44,11 +43,12 @@ impl Records<'_, '_> {
     }
 
     /// The field of a record value that a text value names.
+    // The two texts as apply takes them; a struct would be made here and taken apart for shown.
     fn get_field(&self, book: &[u8], row: &[u8], a: Value, b: Value) -> Value
         ensures { meaning_of book.now row.now result ≡ get_field (field_of book.now row.now self.now.entries.now) (meaning_of book.now row.now a) (meaning_of book.now row.now b) }
     {
         match (a, shown(book, row, b)) {
-            (Value::Record(owner), Ok(name)) => self.field(book, row, owner, name),
+            (Value::Record(owner), Ok(name)) => self.field(owner, name),
             _ => Value::Null,
         }
     }
@@ -62,7 +62,7 @@ impl Engine for Records<'_, '_> {
     ghost nulls = { λ e book row n vs _. records-nulls (field_of book row e.entries.now) n vs };
 
     fn apply(&self, book: &[u8], row: &[u8], number: u32, args: &[Value]) -> Value {
-        // A rule of the project: functions are known by number.
+        // A rule of the project: functions are known by number. An enum of them would be a second match, from number to case.
         match (number, args) {
             (0, &[a, b]) => self.get_field(book, row, a, b),
             _ => Value::Null,

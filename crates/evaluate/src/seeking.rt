@@ -15,11 +15,7 @@ impl Row<'_> {
         requires right { qualifier_in (view_of self.now.terms.now).bytes b ≡ true }
         ensures { result ≡ under (qualifier_at (view_of self.now.terms.now).bytes a) (qualifier_at (view_of self.now.terms.now).bytes b) }
     {
-        match (a, b) {
-            (None, _) => true,
-            (Some(_), None) => false,
-            (Some(x), Some(y)) => self.terms.word(x) == self.terms.word(y),
-        }
+        a.is_none() || a.map(|s| self.terms.word(s)) == b.map(|s| self.terms.word(s))
     }
 
     /// Whether a reference may mean a field.

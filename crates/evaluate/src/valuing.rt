@@ -47,6 +47,7 @@ pub(crate) struct Row<'a> {
 
 impl Row<'_> {
     /// The value of an expression. The arguments of a call stand in the front of the scratch, and each is valued in the rest.
+    // The expression and the scratch are not in `Row`: they are others at each call, and a row needs no engine.
     fn value_of<E: Engine>(&self, engine: &E, e: ExprId, scratch: &mut [Value]) -> Value
         requires wide { length self.now.values.now ≡ length self.now.fields.now }
         requires present { e.0 < count self.now.terms.now }
@@ -64,6 +65,7 @@ impl Row<'_> {
                 arguments,
             } => {
                 let (front, rest) = scratch.split_at_mut(arguments.count as usize);
+                // Not a zip with `front.iter_mut()`: a proof knows nothing of what is written through an adapter's items.
                 for (i, entry) in self.terms.entries(arguments).iter().enumerate() {
                     front[i] = self.value_of(engine, ExprId::read(*entry), rest);
                 }

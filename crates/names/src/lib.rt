@@ -33,6 +33,7 @@ fn read_digits(text: &[u8]) -> Option<u32>
     ensures { result ≡ if digits text.now then Some (min (read_on 0 text.now) NUMBER_CAP) else None }
 {
     let mut n: u32 = 0;
+    // A `for`: each turn tests a digit and adds it; in `try_fold` the same lines would stand in a closure.
     for c in text {
         if !c.is_ascii_digit() {
             return None;

@@ -9,7 +9,7 @@ use crate::good_name;
 use table::table::Table;
 
 /// A part of a text.
-// A start and a length, since a table cannot hold a slice that it lends itself.
+// A start and a length, since a table cannot hold a slice that it lends itself; so that it is inside is a clause.
 #[derive(Clone, Copy, PartialEq, Eq, Debug)]
 pub struct Span {
     pub start: u32,

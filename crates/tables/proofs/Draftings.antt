@@ -1,18 +1,17 @@
 -- Drafts of a new node's fields, for each kind of node.
 use Rattle.std.proofs.Common.{◌≡◌, ℕ, ◌+◌, ◌*◌, ◌<◌, ◌≤◌, Bool, true, false, cond, eqb, List, [], ◌∷◌, ◌++◌, map, length, get_or, sum_by, sym, refl, ap, ◌∙◌, subst, ap₂, arith}
-use Rattle.std.proofs.lemmas.List.{map-append, append_assoc, length-map}
+use Rattle.std.proofs.lemmas.List.{map-append, length-map}
 use Rattle.std.proofs.lemmas.List.Sums.{sum_by-append}
 use Rattle.std.proofs.lemmas.Bool.{and_parts, ltb-true}
 use Rattle.plan.specs.Names.{Name, good_name}
 use Rattle.plan.specs.Terms.{Field, Expr}
 use Rattle.plan.specs.Functions.{Functions}
 use Rattle.plan.specs.Rendering.{field_of}
-use Rattle.plan.specs.Plans.{Plan, fields_of, qualified_by, without_qualifier, column_of, shown, shows_left, shows_right, kept_if}
+use Rattle.plan.specs.Plans.{Plan, fields_of, qualified_by, without_qualifier, column_of}
 use Rattle.plan.specs.Fields.{every}
-use Rattle.plan.specs.Questions.{shown_expressions, joint_fields}
+use Rattle.plan.specs.Questions.{shown_expressions}
 use Rattle.plan.specs.Model.{plan_in, plans_in}
 use Rattle.plan.specs.Calls.{below, all_below, first_part, parts, union_of, rendered_bytes}
-use Rattle.plan.specs.declared.code.JoinKind.{JoinKind}
 use Rattle.terms.specs.Spans.{stored_field, stored_in}
 use Rattle.names.specs.Spans.{word, span_in}
 use Rattle.terms.specs.Views.{View}
@@ -80,18 +79,6 @@ pub sides-draft : (v : View) (o g : List ℕ) (F G : List Field) (fs gs : List S
     → map (stored_field v.bytes) gs ≡ G → every (stored_in v.bytes) gs ≡ true → before ≡ [] → mid ≡ before ++ map as_stored fs → after ≡ mid ++ map as_stored gs → DraftOf v o g (F ++ G) 0 after
 sides-draft v o g F G fs gs before mid after p q r s e h k =
     both-drafts v o g F G 0 0 mid (map as_stored gs) after (stored-draft v o g F fs p q before mid e h) (stored-draft v o g G gs r s [] (map as_stored gs) refl refl) k
-
-pub kind-draft : (v : View) (o g : List ℕ) (k : JoinKind) (F G H : List Field) (ds : List DraftField) → shown k F G ≡ H → DraftOf v o g H 0 ds → DraftOf v o g (shown k F G) 0 ds
-kind-draft v o g k F G H ds e h = subst (λ x. DraftOf v o g x 0 ds) (sym e) h
-
-pub shown-both : (k : JoinKind) (F G : List Field) → true ≡ shows_left k → true ≡ shows_right k → shown k F G ≡ F ++ G
-shown-both k F G p q = ap₂ (λ x y. kept_if x F ++ kept_if y G) (sym p) (sym q)
-
-pub shown-left : (k : JoinKind) (F G : List Field) → true ≡ shows_left k → false ≡ shows_right k → shown k F G ≡ F
-shown-left k F G p q = ap₂ (λ x y. kept_if x F ++ kept_if y G) (sym p) (sym q) ∙ Rattle.std.proofs.lemmas.List.append-nil F
-
-pub shown-right : (k : JoinKind) (F G : List Field) → false ≡ shows_left k → true ≡ shows_right k → shown k F G ≡ G
-shown-right k F G p q = ap₂ (λ x y. kept_if x F ++ kept_if y G) (sym p) (sym q)
 
 -- fields of expressions
 module _ (v : View) (o g : List ℕ) (es : List Expr) (before after : List DraftField) (h : FieldsFor v es before after) where
@@ -177,7 +164,3 @@ union-fields fs ts (i ∷ is) d l = refl
 pub union-shown : (ts : List Plan) → shown_expressions (union_of ts) ≡ []
 union-shown [] = refl
 union-shown (t ∷ ts) = refl
-
-pub union-joint : (fs : Functions) (ts : List Plan) → joint_fields fs (union_of ts) ≡ fields_of fs (union_of ts)
-union-joint fs [] = refl
-union-joint fs (t ∷ ts) = refl

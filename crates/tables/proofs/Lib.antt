@@ -7,7 +7,6 @@ pub mod Answers
 pub mod Draftings
 pub mod NodeFacts
 pub mod Small
-pub mod Commas
 pub mod Fitting
 pub mod Adding
 pub mod Questions

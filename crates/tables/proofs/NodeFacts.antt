@@ -1,15 +1,14 @@
 -- What a node that is to be made names, and what its tree is asked, variant by variant.
-use Rattle.std.proofs.Common.{◌≡◌, ℕ, ◌<◌, ◌≤◌, true, ◌&&◌, leb, ◌⊎◌, List, [], ◌∷◌, ◌++◌, map, length, get_or, refl, ap, ◌∙◌, subst, inl, inr, arith, Bor}
+use Rattle.std.proofs.Common.{◌≡◌, ℕ, ◌<◌, ◌≤◌, true, ◌&&◌, leb, List, [], ◌∷◌, map, length, get_or, refl, ap, ◌∙◌, subst, arith, Bor}
 use Rattle.std.proofs.lemmas.List.{length-map}
 use Rattle.std.proofs.lemmas.Bool.{and_parts, ltb-true, leb-true}
 use Rattle.plan.specs.Terms.{Expr}
 use Rattle.plan.specs.Functions.{Functions}
-use Rattle.plan.specs.Plans.{Plan, fields_of, shown, without_qualifier}
+use Rattle.plan.specs.Plans.{Plan, fields_of, without_qualifier}
 use Rattle.plan.specs.Questions.{expressions_of}
 use Rattle.plan.specs.Model.{expr_in, exprs_in, plan_in, plans_in}
 use Rattle.plan.specs.Calls.{below, all_below, parts, union_of}
 use Rattle.plan.specs.declared.code.JoinKind.{JoinKind}
-use Rattle.plan.specs.declared.code.JoinKind.TheVariants.{Inner, Left, Right, Full}
 use Rattle.terms.specs.Views.{numbers_of}
 use Rattle.terms.specs.declared.node.ExprId.{ExprId}
 use Rattle.terms.specs.declared.node.PlanId.{PlanId}
@@ -81,10 +80,3 @@ exprs-length ts ids = length-map (numbers_of ids) (expr_in ts) ∙ length-map id
 pub union-width : (fs : Functions) (ts : List Plan) (ps : List PlanId) (d : PlanId) → 1 ≤ length ps → length (fields_of fs (union_of (plans_in ts (input_numbers ps)))) ≡ length (fields_of fs (plan_in ts (get_or ps 0 d).0))
 union-width fs ts [] d h = absurd (omega arith)
 union-width fs ts (p ∷ ps) d h = length-map (fields_of fs (plan_in ts p.0)) without_qualifier
-
--- a Join that shows both sides
-pub shows-both : {A : Type 0} (k : JoinKind) (ls rs : List A) → (k ≡ Inner) ⊎ ((k ≡ Left) ⊎ ((k ≡ Right) ⊎ (k ≡ Full))) → shown k ls rs ≡ ls ++ rs
-shows-both k ls rs (inl e) = ap (λ j. shown j ls rs) e
-shows-both k ls rs (inr (inl e)) = ap (λ j. shown j ls rs) e
-shows-both k ls rs (inr (inr (inl e))) = ap (λ j. shown j ls rs) e
-shows-both k ls rs (inr (inr (inr e))) = ap (λ j. shown j ls rs) e

@@ -11,10 +11,7 @@ pub fn copied<T: Listed, const N: usize>(entries: &[Entry]) -> Table<T, N>
     ensures { result ≡ map T.read entries.now }
 {
     let mut out = Table::new(T::read(Entry::Input(PlanId(0))));
-    // Not `push_each`: the check does not cover a function passed on whose result names a type that its arguments do not.
-    for entry in entries {
-        out.push(T::read(*entry));
-    }
+    out.push_each(entries, |entry| T::read(entry));
     out
 }
 

@@ -18,7 +18,7 @@ impl Listed for SortKey {
         Entry::Key(self.by, self.direction)
     }
 
-    // Every entry is read as something, as the definition does, so that the law `kept` asks nothing of the entry.
+    // Every entry is read as something, as the definition does: which kind a list holds is no fact that the tables keep.
     fn read(held: Entry) -> SortKey {
         let direction = match held {
             Entry::Key(_, direction) => direction,

@@ -7,7 +7,8 @@ pub use terms::node::Run;
 use terms::node::{ExprId, PlanId, Span};
 
 /// One node of a plan; its lists stand in the list table. A Table keeps its own number.
-#[derive(Clone, Copy, PartialEq, Eq, Debug)]
+// No `==`: nodes are equal by the trees that they stand for.
+#[derive(Clone, Copy, Debug)]
 pub enum PlanNode {
     Table {
         number: PlanId,
@@ -51,7 +52,7 @@ pub enum PlanNode {
 }
 
 /// A node with its fields, the size of its tree, and its origin.
-#[derive(Clone, Copy, PartialEq, Eq, Debug)]
+#[derive(Clone, Copy, Debug)]
 pub struct PlanRecord {
     pub node: PlanNode,
     pub fields: Run,
@@ -90,7 +91,8 @@ impl TryFrom<Key> for SortKey {
 }
 
 /// A node that is to be made.
-// Not one generic with PlanNode: four parameters, for lists, keys, inputs and names, would stand in every clause.
+// Not one generic with PlanNode: four parameters, for lists, keys, inputs and names, and a Table's variants differ: a PlanNode
+// keeps its number, not its names.
 #[derive(Clone, Copy)]
 pub enum NewNode<'a> {
     Table {

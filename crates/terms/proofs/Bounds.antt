@@ -69,15 +69,6 @@ function-good fs n h = go (cases_lt n (length fs))
     go (inl lt) = every-at good_function fs n None lt h
     go (inr le) = ap good_function (get_or_past fs n None le)
 
-named-short : (f : Option Function) → good_function f ≡ true → length (name_in f) ≤ 255
-named-short None g = omega arith
-named-short (Some f) g =
-    let p = and_parts (good_name f.name && not (prefixed f.name)) (leb f.arity 4) g in
-    name-short f.name (and_parts (good_name f.name) (not (prefixed f.name)) p.0).0
-
-pub function-named : (fs : Functions) (n : ℕ) → every good_function fs ≡ true → length (name_in (function_at fs n)) ≤ 255
-function-named fs n h = named-short (function_at fs n) (function-good fs n h)
-
 -- a function takes at most four arguments
 pub few-arguments : (fs : Functions) (n k : ℕ) → every good_function fs ≡ true → arity_is (function_at fs n) k ≡ true → k ≤ 4
 few-arguments fs n k good h = (function-short (function_at fs n) k (function-good fs n good) h).1

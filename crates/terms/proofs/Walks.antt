@@ -1,9 +1,12 @@
 -- What a walk over an expression goes by: the arguments of a call, and what a call's references are.
-use Rattle.std.proofs.Common.{◌≡◌, ℕ, ◌+◌, ◌<◌, ◌≤◌, Bool, true, false, ◌&&◌, ◌||◌, leb, List, [], ◌∷◌, ◌++◌, map, length, get_or, sym, refl, ap, ◌∙◌, arith}
+use Rattle.std.proofs.Common.{◌≡◌, ℕ, ◌+◌, ◌<◌, ◌≤◌, Bool, true, false, ◌&&◌, ◌||◌, leb, List, [], ◌∷◌, ◌++◌, map, length, get_or, Option, sym, refl, ap, ◌∙◌, subst, arith}
 use Rattle.std.proofs.lemmas.List.{length-map, get_or-map}
 use Rattle.std.proofs.lemmas.List.Folds.{list_all-map}
 use Rattle.std.proofs.lemmas.Bool.{and_parts, leb-true, ltb-true}
 use Rattle.std.specs.List.{list_all, list_any}
+use Rattle.std.specs.Iterator.{CallableAtEachTurn}
+use Rattle.std.proofs.lemmas.Iterator.{YieldsList}
+use Rattle.std.proofs.lemmas.Iterator.Adapters.{serves_from_places}
 use Rattle.table.specs.Contents.{part}
 use Rattle.table.proofs.Parts.{length_part}
 use Rattle.plan.specs.Terms.{Field, Expr, arguments, references_of, references_of_all}
@@ -70,6 +73,12 @@ pub item_below : {X : Type 0} (f : X → ℕ) (n : ℕ) (xs : List X) (i : ℕ) 
 item_below f n xs i d lt h =
     let e = get_or-map f xs i d (f d) lt in
     omega (arith, e, ltb-true _ _ (every-at (below n) (map f xs) i (f d) (omega (arith, length-map xs f)) h))
+
+-- what a chain asks of its closure at each turn, where the numbers of all items are low
+pub serves_low : {S A X F : Type 0} {steps : S → Option A → S → Type 0} {v : A → X} {s : S} {xs : List X} {R : F → A → F → Type 0} {Q : F → A → Type 0} {f : F} (num : X → ℕ) (n : ℕ)
+    → YieldsList steps v s xs → all_below n (map num xs) ≡ true → ((x : A) (q : F) → R f x q → q ≡ f) → ((x : A) → num (v x) < n → Q f x) → CallableAtEachTurn steps R Q s f
+serves_low {v = v} {xs = xs} num n road low stays asks =
+    serves_from_places road stays (λ x k lt e. asks x (subst (λ y. num y < n) (sym e) (item_below num n xs k (v x) lt low)))
 
 -- a call's references are those of its arguments
 pub resolved-arguments : (fs : List Field) (ts : List Expr) → every (resolves fs) (references_of_all (arguments ts)) ≡ every (resolved fs) ts

@@ -35,11 +35,10 @@ impl Listed for ExprId {
         Entry::Expression(self)
     }
 
-    // Every entry is read as something, as the definition does, so that the law kept asks nothing.
+    // Every entry is read as something, as the definition does: which kind a list holds is no fact that the tables keep.
     fn read(held: Entry) -> ExprId {
         match held {
-            Entry::Expression(e) => e,
-            Entry::Key(e, _) => e,
+            Entry::Expression(e) | Entry::Key(e, _) => e,
             Entry::Input(p) => ExprId(p.0),
         }
     }
@@ -56,6 +55,7 @@ impl Listed for PlanId {
         Entry::Input(self)
     }
 
+    // By the number that the entry names, as the definition does; an expression is read by the same number.
     fn read(held: Entry) -> PlanId {
         PlanId(ExprId::read(held).0)
     }

@@ -4,7 +4,8 @@ use plan::code::{Direction, Rule};
 
 /// An expression, by its number.
 // A number, since outside a book expressions are known by number. That it is there is a clause of each function: a number
-// says nothing of the tables, which grow.
+// says nothing of the tables, which grow. A struct that borrows the tables holds it where several questions are asked of one
+// thing (`Arguments`, `Asked`).
 #[derive(Clone, Copy, PartialEq, Eq, Debug)]
 pub struct ExprId(pub u32);
 

@@ -18,7 +18,7 @@ pub enum Side {
 
 /// A part of one of the two texts. One that reaches past the end of its text counts as null.
 // A start and a length: a slice would tie every row, and the scratch of evaluate, to one borrow of the book.
-// Not a Span: this crate stands beside names, not above it.
+// Not a Span: this crate stands beside names, not above it. `==` compares the places, not the bytes.
 #[derive(Clone, Copy, PartialEq, Eq, Debug)]
 pub struct Text {
     pub side: Side,

@@ -18,6 +18,7 @@ use draft::reading::has_short_names;
 use table::table::Table;
 use terms::node::{ExprId, PlanId, StoredField};
 
+// Clauses, as in `reading`: `Asked` holds for the whole node that its inputs and expressions are there; these take parts of it.
 impl Tables {
     /// Whether every reference of some expressions resolves among the fields of one or two inputs.
     fn all_resolved(&self, left: &[StoredField], right: &[StoredField], ids: &[ExprId]) -> bool
@@ -118,7 +119,7 @@ impl Asked<'_, '_> {
     pub(super) fn is_resolved(self) -> bool
         ensures { result ≡ every (resolved (input_fields (functions_for self.entry) (new_tree self.entry))) (expressions_of (new_tree self.entry)) }
     {
-        // One arm for each kind: the match says what the kinds mean.
+        // One arm for each kind that has expressions: the match says what the kinds mean.
         match self.node {
             NewNode::Projection { input, list } => self.tables.list_resolved(input, list),
             NewNode::Filter { input, predicate } => self.tables.one_resolved(input, predicate),

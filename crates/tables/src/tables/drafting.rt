@@ -20,7 +20,8 @@ use terms::node::{PlanId, Span};
 
 impl Tables {
     /// The fields that a join shows.
-    // The kind and both sides come as the node has them. The same match of three arms gives their number in `join_width`.
+    // The kind and both sides come as the node has them. Methods of `JoinKind` for its sides would be two contracts more, and
+    // serve only here and in `join_width`.
     fn draft_join(
         &self,
         kind: JoinKind,
@@ -50,7 +51,7 @@ impl Asked<'_, '_> {
         requires { out.old ≡ [] }
         ensures { DraftOf (view_in self.entry.tables.now) (lent_owner self.entry.node) (lent_given self.entry.node) (new_fields self.entry) (sum_by (rendered_bytes (functions_for self.entry)) (shown_expressions (new_tree self.entry))) out.new }
     {
-        // One arm for each kind: the match says what the kinds mean.
+        // One arm for each way of showing fields: the match says what the kinds mean.
         match self.node {
             NewNode::Table { names, .. } => {
                 let mut pieces = Table::new(Span { start: 0, len: 0 });

@@ -30,7 +30,7 @@ impl Tables {
         ensures lower { result.0 < p.0 }
     {
         match self.record_of(p).node {
-            // Excluded by the contract. An Option here would move the same test to each caller.
+            // Excluded by the contract. An Option would need a test of the position in every other arm.
             PlanNode::Table { .. } => p,
             PlanNode::Projection { input, .. }
             | PlanNode::Filter { input, .. }

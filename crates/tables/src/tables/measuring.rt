@@ -27,7 +27,8 @@ impl Tables {
     }
 
     /// How many fields a Join has.
-    // The kind and both sides come as the node has them. The same match of three arms gives the fields in `draft_join`.
+    // The kind and both sides come as the node has them. Methods of `JoinKind` for its sides would be two contracts more, and
+    // serve only here and in `draft_join`.
     fn join_width(&self, kind: JoinKind, left: PlanId, right: PlanId) -> usize
         requires left { left.0 < plan_count self.now }
         requires right { right.0 < plan_count self.now }
@@ -70,7 +71,7 @@ impl Asked<'_, '_> {
         ensures value { result ≡ length (new_fields self.entry) }
         ensures bound { result ≤ 128 }
     {
-        // One arm for each kind: the match says what the kinds mean.
+        // One arm for each way of counting fields: the match says what the kinds mean.
         match self.node {
             NewNode::Table { names, .. } => count_names(names),
             NewNode::Projection { list, .. } => list.len(),

@@ -62,7 +62,7 @@ impl Tables {
         })
     }
 
-    // The kind and both sides come as the node has them: a struct of the three would be made for this call alone.
+    // The kind and both sides come as the node has them: a struct of the three would be made at each call.
     fn remake_join(
         &mut self,
         kind: JoinKind,

@@ -15,6 +15,7 @@ use std::num::f64_to_bits_with_nan;
 use table::table::Table;
 
 /// Parts an argument from the one before it, if there is one.
+// Not in the loop of `render`: here both cases are one clause, by the definition `gap`.
 fn part(i: usize, out: &mut Table<u8, 131072>)
     requires { length out.old + length (gap i) ≤ 131072 }
     ensures { out.new ≡ out.old ++ gap i }

@@ -73,7 +73,7 @@ impl Terms {
     }
 
     /// Whether every reference of an expression resolves among the fields of one or two inputs.
-    // A struct of `left` and `right` would serve one function more, `resolves`, and this one would still take both.
+    // A struct of `left` and `right` would be taken by three functions (`all_resolved` of tables too) and made in four.
     pub fn resolved(&self, left: &[StoredField], right: &[StoredField], e: ExprId) -> bool
         requires left { every (stored_in (view_of self.now).bytes) left.now ≡ true }
         requires right { every (stored_in (view_of self.now).bytes) right.now ≡ true }
@@ -86,8 +86,8 @@ impl Terms {
             ExprNode::Alias { inner, .. } => self.resolved(left, right, inner),
             ExprNode::Call { arguments, .. } => {
                 let listed = self.entries(arguments);
-                // A `for`: in `all` the function calls itself inside a closure, so that the proof has to say what falls
-                // for both, and what the closure asks at each turn.
+                // A `for`: `all` is no plainer here, since the function would call itself inside a closure, and the proof would
+                // need a measure of both.
                 for entry in listed {
                     if !self.resolved(left, right, ExprId::read(*entry)) {
                         return false;

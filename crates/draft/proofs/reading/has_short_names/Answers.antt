@@ -1,5 +1,4 @@
-use Rattle.std.proofs.Common.{◌≡◌, ◌<◌, sym, refl, ◌∙◌, subst, rules, nat_le}
-use Rattle.std.proofs.lemmas.Iterator.Adapters.{serves_from_places}
+use Rattle.std.proofs.Common.{◌≡◌, refl, ◌∙◌, rules, nat_le}
 use Rattle.std.proofs.lemmas.Iterator.{YieldsList-from_slice}
 use Rattle.std.proofs.lemmas.Iterator.Search.{all_from_yields_List}
 use Rattle.plan.specs.Calls.{rendered_bytes}
@@ -9,7 +8,7 @@ use Rattle.plan.specs.Questions.{short_name}
 use Rattle.plan.specs.Terms.{Expr}
 use Rattle.plan.specs.Terms.Expr.{literal, reference, alias, call}
 use Rattle.terms.specs.Views.{count, view_of}
-use Rattle.terms.proofs.Walks.{every-twice, item_below}
+use Rattle.terms.proofs.Walks.{every-twice, serves_low}
 use Rattle.draft.proofs.reading.has_short_names.Goals as goal
 
 short : (fs : Functions) (e : Expr) → nat_le (rendered_bytes fs e) 255 ≡ short_name fs e
@@ -22,7 +21,7 @@ pub all-requires-clause-callable : goal.all-requires-clause-callable
 all-requires-clause-callable c =
     let n = count c.args.terms.now in
     let ids = c.args.ids.now in
-    serves_from_places (YieldsList-from_slice ids cc) (λ x q k. search rules) (λ x k lt e. let h : x.now.0 < n = subst (λ y. y.0 < n) (sym e) (item_below (λ y. y.0) n ids k x.now lt c.requires) in search rules)
+    serves_low (λ y. y.0) n (YieldsList-from_slice ids cc) c.requires (λ x q k. search rules) (λ x h. search rules)
 
 pub returns : goal.returns
 returns c =

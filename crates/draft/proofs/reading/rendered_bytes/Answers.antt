@@ -1,6 +1,5 @@
-use Rattle.std.proofs.Common.{◌≡◌, ◌+◌, ◌<◌, ◌≤◌, List, [], ◌∷◌, sum_by, sym, refl, ap, ◌∙◌, subst, arith, rules}
+use Rattle.std.proofs.Common.{◌≡◌, ◌+◌, ◌≤◌, List, [], ◌∷◌, sum_by, sym, refl, ap, ◌∙◌, arith, rules}
 use Rattle.std.proofs.lemmas.Iterator.{YieldsList-from_slice, YieldsList-from_map}
-use Rattle.std.proofs.lemmas.Iterator.Adapters.{serves_from_places}
 use Rattle.std.proofs.lemmas.Iterator.Consumers.{sum_by_from_yields_List}
 use Rattle.std.proofs.lemmas.List.Sums.{sum_by-cons}
 use Rattle.plan.specs.Calls.{rendered_bytes}
@@ -13,7 +12,7 @@ use Rattle.terms.specs.Views.{count, numbers_of, tree_of, view_of}
 use Rattle.terms.specs.declared.node.ExprId.{ExprId}
 use Rattle.terms.specs.declared.terms.Terms.{Terms}
 use Rattle.terms.proofs.Arguments.{bounded-sum, short-name}
-use Rattle.terms.proofs.Walks.{item_below}
+use Rattle.terms.proofs.Walks.{serves_low}
 use Rattle.draft.proofs.reading.rendered_bytes.Goals as goal
 
 not_longer : (fs : Functions) (e : Expr) → rendered_bytes fs e ≤ width_of fs e
@@ -33,7 +32,7 @@ pub sum-requires-clause-can : goal.sum-requires-clause-can
 sum-requires-clause-can c =
     let n = count c.args.terms.now in
     let ids = c.args.ids.now in
-    (tt, serves_from_places (YieldsList-from_slice ids cc) (λ x q k. search rules) (λ x k lt e. let h : x.now.0 < n = subst (λ y. y.0 < n) (sym e) (item_below (λ y. y.0) n ids k x.now lt c.requires.present) in search rules))
+    (tt, serves_low (λ y. y.0) n (YieldsList-from_slice ids cc) c.requires.present (λ x q k. search rules) (λ x h. search rules))
 
 pub returns : goal.returns
 returns c =

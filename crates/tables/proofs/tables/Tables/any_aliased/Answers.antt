@@ -1,6 +1,5 @@
-use Rattle.std.proofs.Common.{◌<◌, map, length, sym, ap, ◌∙◌, subst, rules}
+use Rattle.std.proofs.Common.{map, length, ap, ◌∙◌, rules}
 use Rattle.std.proofs.lemmas.Bool.{and_parts}
-use Rattle.std.proofs.lemmas.Iterator.Adapters.{serves_from_places}
 use Rattle.std.proofs.lemmas.Iterator.{YieldsList-from_slice}
 use Rattle.std.proofs.lemmas.Iterator.Search.{any_from_yields_List}
 use Rattle.plan.specs.Calls.{all_below}
@@ -10,7 +9,7 @@ use Rattle.plan.specs.Tracing.{aliased}
 use Rattle.terms.specs.Entries.{entry_number}
 use Rattle.tables.specs.Holding.{view_in}
 use Rattle.tables.specs.Stored.{run_in}
-use Rattle.terms.proofs.Walks.{any-twice, item_below}
+use Rattle.terms.proofs.Walks.{any-twice, serves_low}
 use Rattle.tables.proofs.tables.Tables.any_aliased.Goals as goal
 
 pub any-requires-clause-callable : goal.any-requires-clause-callable
@@ -19,7 +18,7 @@ any-requires-clause-callable c =
     let n = length v.trees in
     let es = c.entries.result.now in
     let all = (and_parts (run_in v.entries c.args.list) _ c.requires).1 in
-    serves_from_places (YieldsList-from_slice es cc) (λ x q k. search rules) (λ x k lt e. let h : entry_number x.now < n = subst (λ y. entry_number y < n) (sym e) (item_below entry_number n es k x.now lt (ap (λ l. all_below n (map entry_number l)) c.entries.ensures ∙ all)) in search rules)
+    serves_low entry_number n (YieldsList-from_slice es cc) (ap (λ l. all_below n (map entry_number l)) c.entries.ensures ∙ all) (λ x q k. search rules) (λ x h. search rules)
 
 pub returns : goal.returns
 returns c =

@@ -1,11 +1,10 @@
-use Rattle.std.proofs.Common.{◌<◌, sym, ◌∙◌, subst, arith, rules}
+use Rattle.std.proofs.Common.{◌∙◌, arith, rules}
 use Rattle.std.proofs.lemmas.Iterator.{YieldsList-from_slice, YieldsList-from_map}
-use Rattle.std.proofs.lemmas.Iterator.Adapters.{serves_from_places}
 use Rattle.std.proofs.lemmas.Iterator.Consumers.{sum_by_from_yields_List}
 use Rattle.plan.specs.Plans.{plan_size_of}
 use Rattle.terms.specs.declared.node.PlanId.{PlanId}
 use Rattle.tables.specs.Holding.{tree_in, plan_count}
-use Rattle.terms.proofs.Walks.{item_below}
+use Rattle.terms.proofs.Walks.{serves_low}
 use Rattle.tables.proofs.Inputs.{sizes-added, sizes-small}
 use Rattle.tables.proofs.tables.Tables.sizes_of.Goals as goal
 
@@ -13,7 +12,7 @@ pub sum-requires-clause-can : goal.sum-requires-clause-can
 sum-requires-clause-can c =
     let n = plan_count c.args.self.now in
     let ps = c.args.inputs.now in
-    (tt, serves_from_places (YieldsList-from_slice ps cc) (λ x q k. search rules) (λ x k lt e. let h : x.now.0 < n = subst (λ y. y.0 < n) (sym e) (item_below (λ y. y.0) n ps k x.now lt c.requires.present) in search rules))
+    (tt, serves_low (λ y. y.0) n (YieldsList-from_slice ps cc) c.requires.present (λ x q k. search rules) (λ x h. search rules))
 
 pub returns : goal.returns
 returns c =

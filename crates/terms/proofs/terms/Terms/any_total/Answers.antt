@@ -1,18 +1,17 @@
-use Rattle.std.proofs.Common.{◌<◌, sym, ◌∙◌, subst, rules}
-use Rattle.std.proofs.lemmas.Iterator.Adapters.{serves_from_places}
+use Rattle.std.proofs.Common.{◌∙◌, rules}
 use Rattle.std.proofs.lemmas.Iterator.{YieldsList-from_slice}
 use Rattle.std.proofs.lemmas.Iterator.Search.{any_from_yields_List}
 use Rattle.plan.specs.Functions.{is_total}
 use Rattle.plan.specs.Model.{expr_in}
 use Rattle.terms.specs.Views.{count, view_of}
-use Rattle.terms.proofs.Walks.{any-twice, item_below}
+use Rattle.terms.proofs.Walks.{any-twice, serves_low}
 use Rattle.terms.proofs.terms.Terms.any_total.Goals as goal
 
 pub any-requires-clause-callable : goal.any-requires-clause-callable
 any-requires-clause-callable c =
     let n = count c.args.self.now in
     let ids = c.args.ids.now in
-    serves_from_places (YieldsList-from_slice ids cc) (λ x q k. search rules) (λ x k lt e. let h : x.now.0 < n = subst (λ y. y.0 < n) (sym e) (item_below (λ z. z.0) n ids k x.now lt c.requires) in search rules)
+    serves_low (λ z. z.0) n (YieldsList-from_slice ids cc) c.requires (λ x q k. search rules) (λ x h. search rules)
 
 pub returns : goal.returns
 returns c =

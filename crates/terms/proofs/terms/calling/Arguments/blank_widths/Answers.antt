@@ -1,12 +1,11 @@
-use Rattle.std.proofs.Common.{◌+◌, ◌<◌, sym, subst, arith, rules}
+use Rattle.std.proofs.Common.{◌+◌, arith, rules}
 use Rattle.std.proofs.lemmas.Iterator.{YieldsList-from_slice, YieldsList-from_map}
-use Rattle.std.proofs.lemmas.Iterator.Adapters.{serves_from_places}
 use Rattle.std.proofs.lemmas.Iterator.Consumers.{sum_by_from_yields_List, fits_by_from_yields_list}
 use Rattle.terms.specs.Build.{width_of}
 use Rattle.terms.specs.Views.{count, tree_of, view_of}
 use Rattle.terms.specs.declared.node.ExprId.{ExprId}
 use Rattle.terms.proofs.Arguments.{bounded-sum, short-name, widths-added}
-use Rattle.terms.proofs.Walks.{item_below}
+use Rattle.terms.proofs.Walks.{serves_low}
 use Rattle.terms.proofs.terms.calling.Arguments.blank_widths.Goals as goal
 
 pub sum-requires-clause-can : goal.sum-requires-clause-can
@@ -14,7 +13,7 @@ sum-requires-clause-can c =
     let t = c.args.self.terms.now in
     let n = count t in
     let ids = c.args.self.ids.now in
-    (tt, serves_from_places (YieldsList-from_slice ids cc) (λ x q k. search rules) (λ x k lt e. let h : x.now.0 < n = subst (λ y. y.0 < n) (sym e) (item_below (λ y. y.0) n ids k x.now lt c.args.self.present) in search (rules, arith, short-name t x.now.0 h)))
+    (tt, serves_low (λ y. y.0) n (YieldsList-from_slice ids cc) c.args.self.present (λ x q k. search rules) (λ x h. search (rules, arith, short-name t x.now.0 h)))
 
 pub sum-requires-clause-fits : goal.sum-requires-clause-fits
 sum-requires-clause-fits c =
