@@ -12,7 +12,7 @@ use terms::node::{ExprId, Span, StoredField};
 use terms::terms::Terms;
 
 /// Adds stored fields as they are.
-// Room is a clause of each: a fact of the table and the items together. That all numbers are there is one, as in `reading`.
+// Room is a clause of each: a fact of the table and the items together.
 pub fn push_stored(out: &mut Table<DraftField, 128>, fields: &[StoredField])
     requires { length out.old + length fields.now ≤ 128 }
     ensures { out.new ≡ out.old ++ map as_stored fields.now }
@@ -63,6 +63,7 @@ pub fn push_columns(out: &mut Table<DraftField, 128>, pieces: &[Span])
 }
 
 /// Adds the fields that expressions have.
+// That all numbers are there is a clause, as in `reading`.
 pub fn push_expressions(terms: &Terms, out: &mut Table<DraftField, 128>, ids: &[ExprId])
     requires present { all_below (count terms.now) (numbers_of ids.now) ≡ true }
     requires room { length out.old + length ids.now ≤ 128 }

@@ -78,6 +78,7 @@ impl Tables {
     }
 }
 
+// Clauses, as above.
 impl Tables {
     /// Whether the rendered names of the expressions of two lists are short.
     fn both_short(&self, first: &[ExprId], second: &[ExprId]) -> bool
