@@ -1,5 +1,5 @@
 -- A plan that stands for another and carries further columns, each with the value of an expression over the other.
-use Rattle.std.proofs.Common.{◌≡◌, ℕ, suc, ◌<◌, Bool, true, false, cond, ◌||◌, T, ◌⊎◌, List, [], ◌∷◌, ◌++◌, map, length, get_or, sym, refl, ap, ◌∙◌, subst, inl, inr, append_assoc, append-nil, suc-le-suc, zero-le}
+use Rattle.std.proofs.Common.{◌≡◌, ℕ, suc, ◌<◌, Bool, true, false, cond, ◌&&◌, ◌||◌, T, ◌⊎◌, List, [], ◌∷◌, ◌++◌, map, length, get_or, sym, refl, ap, ◌∙◌, subst, inl, inr, append_assoc, append-nil, suc-le-suc, zero-le}
 use lib.ListN.{get_or-map, length-map}
 use mir.Facts.{and_yes}
 use Rattle.std.proofs.ByRecursion.{all_has_itself, All-map, All-weaker, has_append_left, has_push}
@@ -27,7 +27,7 @@ use Rattle.rows.specs.Rows.{may_mean, rows_of, seek, value_in}
 use Rattle.rows.specs.Standing.{Covers, Known, Lawful, Stands, at, pick, refs, up_from}
 use Rattle.rows.specs.Worlds.{Fitting, Row, applied}
 use Rattle.rewriting.proofs.Equals.{same-eval, same_known, same-owned}
-use Rattle.rewriting.specs.Extracting.{add_column, add_columns, add_pair, add_pairs, aliased, freshly, merged, replace_cols, replace_cols_all}
+use Rattle.rewriting.specs.Extracting.{add_column, add_columns, add_pair, add_pairs, aliased, freshly, build_projection_replace_map, merged, replace_cols_by_name, replace_cols_by_names, resolved_in}
 use Rattle.rewriting.specs.Routing.{Pair, has_all_column_refs, unalias}
 
 -- R has a column that x may mean, of the value of e over P
@@ -144,17 +144,23 @@ module _ {F : Functions} where
     unalias-eval (call n args) = refl
 
     mutual
-      unfolding value_in replace_cols
+      unfolding value_in replace_cols_by_name unalias
 
-      pub replace-eval : (e : Expr) → eval W (map (field_of F) es) (map (eval W fs row) es) e ≡ eval W fs row (replace_cols F es e)
-      replace-eval (reference r) = get_or-map (eval W fs row) es (seek r (map (field_of F) es)) (literal null_literal) ∙ sym (unalias-eval _)
+      replace-eval : (e : Expr) → eval W (map (field_of F) es) (map (eval W fs row) es) e ≡ eval W fs row (replace_cols_by_name (build_projection_replace_map F es) e)
+      replace-eval (reference r) =
+          let k = seek r (map (field_of F) es) in
+          get_or-map (eval W fs row) es k (literal null_literal) ∙ sym (unalias-eval (get_or es k (literal null_literal))) ∙ sym (ap (eval W fs row) (get_or-map unalias es k (literal null_literal)))
       replace-eval (literal v) = refl
       replace-eval (alias e f) = replace-eval e
       replace-eval (call n args) = ap (applied W.world n) (replaces-eval args)
 
-      replaces-eval : (args : Exprs) → evals W (map (field_of F) es) (map (eval W fs row) es) args ≡ evals W fs row (replace_cols_all F es args)
+      replaces-eval : (args : Exprs) → evals W (map (field_of F) es) (map (eval W fs row) es) args ≡ evals W fs row (replace_cols_by_names (build_projection_replace_map F es) args)
       replaces-eval none = refl
       replaces-eval (more e args) = let p = replace-eval e in let q = replaces-eval args in cc
+
+    pub resolved-eval : (e : Expr) → eval W (map (field_of F) es) (map (eval W fs row) es) e ≡ eval W fs row (resolved_in F es e)
+    unfolding resolved_in
+    resolved-eval e = replace-eval e
 
 -- the same, or equal as expressions
 abbrev pub Alike : Expr → Expr → Type 0
@@ -203,7 +209,7 @@ module _ (F : Functions) (es rest : List Expr) (I : Plan) where
   unfolding rows_of
   stands-more = record { covers = covers_more; alike = λ W. sym (map_with _ _ _ (rows W I) (λ row. back-row W row)) }
 
-  more-holds : (p : Pair) → Like (es ++ rest) (alias (replace_cols F es p.0) (unqualified_field p.1)) → Holds F (projection (es ++ rest) I) (up_from 0 (length es)) (projection es I) (unqualified_field p.1) p.0
+  more-holds : (p : Pair) → Like (es ++ rest) (alias (resolved_in F es p.0) (unqualified_field p.1)) → Holds F (projection (es ++ rest) I) (up_from 0 (length es)) (projection es I) (unqualified_field p.1) p.0
   unfolding rows_of value_in
   more-holds p h = record {
     place = h.1.0;
@@ -211,11 +217,11 @@ module _ (F : Functions) (es rest : List Expr) (I : Plan) where
     meant = rw (field-entry F (es ++ rest) h.1.0 h.0 h.1.1 (h.1.2 (literal null_literal)), alike-field F _ _ h.0 h.2) (mean-refl (unqualified_field p.1));
     value = λ W. All-map _ _ (rows W I) (all_any _ (rows W I) (λ row.
         value-entry W (fields_of F I) row (es ++ rest) h.1.0 h.0 (h.1.2 (literal null_literal))
-        ∙ sym (alike-eval W (fields_of F I) row (alias (replace_cols F es p.0) (unqualified_field p.1)) h.0 h.2)
-        ∙ sym (replace-eval W (fields_of F I) es row p.0) ∙ sym (ap (λ (r : Row). eval W (map (field_of F) es) r p.0) (back-row W row))));
+        ∙ sym (alike-eval W (fields_of F I) row (alias (resolved_in F es p.0) (unqualified_field p.1)) h.0 h.2)
+        ∙ sym (resolved-eval W (fields_of F I) es row p.0) ∙ sym (ap (λ (r : Row). eval W (map (field_of F) es) r p.0) (back-row W row))));
   }
 
-  pub carries-more : (ps : List Pair) → AllByRecursion (λ p. Like (es ++ rest) (alias (replace_cols F es p.0) (unqualified_field p.1))) ps → Carries F (projection (es ++ rest) I) (projection es I) ps
+  pub carries-more : (ps : List Pair) → AllByRecursion (λ p. Like (es ++ rest) (alias (resolved_in F es p.0) (unqualified_field p.1))) ps → Carries F (projection (es ++ rest) I) (projection es I) ps
   carries-more ps h = record { σ = _; stands = stands-more; holds = All-weaker _ _ more-holds ps h }
 
 -- the merge adds behind, and has every pair
@@ -248,42 +254,42 @@ add-pair a acc = go (any (same_expr a) acc) (λ h. has-any a acc h)
     go false f = ((a ∷ [], refl), (a, has_push acc a, inl refl))
 
 add-pairs : (F : Functions) (es : List Expr) (ps : List Pair) (acc : List Expr)
-    → Grown acc (add_pairs F es ps acc) × AllByRecursion (λ p. Like (add_pairs F es ps acc) (alias (replace_cols F es p.0) (unqualified_field p.1))) ps
+    → Grown acc (add_pairs F es ps acc) × AllByRecursion (λ p. Like (add_pairs F es ps acc) (alias (resolved_in F es p.0) (unqualified_field p.1))) ps
 unfolding add_pairs
 add-pairs F es [] acc = (grown-self acc, tt)
 add-pairs F es (p ∷ ps) acc =
-    let a = alias (replace_cols F es p.0) (unqualified_field p.1) in
+    let a = alias (resolved_in F es p.0) (unqualified_field p.1) in
     let g = add-pair a acc in
     let h = add-pairs F es ps (add_pair a acc) in
     (grown-trans acc (add_pair a acc) _ g.0 h.0, (grown-has (add_pair a acc) _ a h.0 g.1, h.1))
 
-add-column : (F : Functions) (e : Expr) (acc : List Expr) → Grown acc (add_column F e acc)
+add-column : (F : Functions) (ins : List Field) (e : Expr) (acc : List Expr) → Grown acc (add_column F ins e acc)
 unfolding add_column
-add-column F (reference r) acc = go (lawful (map (field_of F) (acc ++ reference r ∷ [])))
+add-column F ins (reference r) acc = go (any (may_mean r) ins && lawful (map (field_of F) (acc ++ reference r ∷ [])))
   where
     go : (b : Bool) → Grown acc (cond b (acc ++ reference r ∷ []) acc)
     go true = (reference r ∷ [], refl)
     go false = grown-self acc
-add-column F (literal v) acc = grown-self acc
-add-column F (alias e f) acc = grown-self acc
-add-column F (call n es) acc = grown-self acc
+add-column F ins (literal v) acc = grown-self acc
+add-column F ins (alias e f) acc = grown-self acc
+add-column F ins (call n es) acc = grown-self acc
 
-add-columns : (F : Functions) (es : List Expr) (cs : List Field) (acc : List Expr) → Grown acc (add_columns F es cs acc)
+add-columns : (F : Functions) (ins : List Field) (es : List Expr) (cs : List Field) (acc : List Expr) → Grown acc (add_columns F ins es cs acc)
 unfolding add_columns
-add-columns F es [] acc = grown-self acc
-add-columns F es (c ∷ cs) acc = grown-trans acc _ _ (add-column F (replace_cols F es (reference c)) acc) (add-columns F es cs (add_column F (replace_cols F es (reference c)) acc))
+add-columns F ins es [] acc = grown-self acc
+add-columns F ins es (c ∷ cs) acc = grown-trans acc _ _ (add-column F ins (resolved_in F es (reference c)) acc) (add-columns F ins es cs (add_column F ins (resolved_in F es (reference c)) acc))
 
-pub merged-grown : (F : Functions) (es : List Expr) (ps : List Pair) (cs : List Field) → Grown es (merged F es ps cs)
+pub merged-grown : (F : Functions) (I : Plan) (es : List Expr) (ps : List Pair) (cs : List Field) → Grown es (merged F I es ps cs)
 unfolding merged
-merged-grown F es ps cs = grown-trans es _ _ (add-pairs F es ps es).0 (add-columns F es cs (add_pairs F es ps es))
+merged-grown F I es ps cs = grown-trans es _ _ (add-pairs F es ps es).0 (add-columns F (fields_of F I) es cs (add_pairs F es ps es))
 
 module _ {F : Functions} where
-  pub carries-merge : (es : List Expr) (I : Plan) (ps : List Pair) (cs : List Field) → Carries F (projection (merged F es ps cs) I) (projection es I) ps
+  pub carries-merge : (es : List Expr) (I : Plan) (ps : List Pair) (cs : List Field) → Carries F (projection (merged F I es ps cs) I) (projection es I) ps
   unfolding merged
   carries-merge es I ps cs =
-      let g = merged-grown F es ps cs in
+      let g = merged-grown F I es ps cs in
       let a = add-pairs F es ps es in
-      let c = add-columns F es cs (add_pairs F es ps es) in
-      let h = All-weaker _ _ (λ p k. grown-has (add_pairs F es ps es) (merged F es ps cs) (alias (replace_cols F es p.0) (unqualified_field p.1)) c k) ps a.1 in
+      let c = add-columns F (fields_of F I) es cs (add_pairs F es ps es) in
+      let h = All-weaker _ _ (λ p k. grown-has (add_pairs F es ps es) (merged F I es ps cs) (alias (resolved_in F es p.0) (unqualified_field p.1)) c k) ps a.1 in
       subst (λ (l : List Expr). Carries F (projection l I) (projection es I) ps) (sym g.1) (carries-more F es g.0 I ps
-      (subst (λ (l : List Expr). AllByRecursion (λ p. Like l (alias (replace_cols F es p.0) (unqualified_field p.1))) ps) g.1 h))
+      (subst (λ (l : List Expr). AllByRecursion (λ p. Like l (alias (resolved_in F es p.0) (unqualified_field p.1))) ps) g.1 h))

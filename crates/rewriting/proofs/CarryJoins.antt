@@ -1,5 +1,5 @@
 -- A join over plans that carry columns carries them.
-use Rattle.std.proofs.Common.{◌≡◌, ℕ, ◌+◌, ◌<◌, Bool, T, List, [], ◌++◌, length, get_or, sym, refl, ap, ◌∙◌, append-nil, arith, length-append, get_or-append-add}
+use Rattle.std.proofs.Common.{◌≡◌, ℕ, ◌+◌, ◌<◌, Bool, T, List, [], ◌++◌, length, get_or, sym, refl, ap, ◌∙◌, subst, append-nil, arith, length-append, get_or-append-add}
 use lib.ListN.{get_or-append, length-map}
 use mir.Facts.{and_yes}
 use Rattle.std.proofs.ByRecursion.{All-append}
@@ -26,7 +26,8 @@ use Rattle.rows.specs.Rows.{joined, lone, matches, may_mean, nulls, pairs, pairs
 use Rattle.rows.specs.Standing.{Known, Knowns, Means, Stands, at, pads_left, pads_right, pick}
 use Rattle.rows.specs.Worlds.{Fitting, Row}
 use Rattle.rewriting.proofs.Carries.{Holds}
-use Rattle.rewriting.specs.Routing.{has_all_column_refs, have_all_column_refs}
+use Rattle.rewriting.proofs.Columns.{columns-mean}
+use Rattle.rewriting.specs.Routing.{has_all_column_refs, have_all_column_refs, schema_columns}
 
 pub pick-wide : (σ : List ℕ) (row : Row) → length (pick σ row) ≡ length σ
 unfolding pick
@@ -62,28 +63,28 @@ means-right r fl fr j m a = record { inside = a.1; meant = a.2; sole = only }
 mutual
   unfolding has_all_column_refs
 
-  pub known-left : (fl fr : List Field) (e : Expr) → Known (fl ++ fr) e → T (has_all_column_refs fl e) → Known fl e
-  known-left fl fr (reference r) k h = known-means (means-left r fl fr (seek r (fl ++ fr)) k (any_place (may_mean r) fl h))
+  pub known-left : (fl fr : List Field) (e : Expr) → Known (fl ++ fr) e → T (has_all_column_refs (schema_columns fl) e) → Known fl e
+  known-left fl fr (reference r) k h = known-means (means-left r fl fr (seek r (fl ++ fr)) k (any_place (may_mean r) fl (subst T (columns-mean r fl) h)))
   known-left fl fr (literal v) k h = tt
   known-left fl fr (alias e f) k h = known-left fl fr e k h
   known-left fl fr (call n es) k h = knowns-left fl fr es k h
 
-  knowns-left : (fl fr : List Field) (es : Exprs) → Knowns (fl ++ fr) es → T (have_all_column_refs fl es) → Knowns fl es
+  knowns-left : (fl fr : List Field) (es : Exprs) → Knowns (fl ++ fr) es → T (have_all_column_refs (schema_columns fl) es) → Knowns fl es
   knowns-left fl fr none k h = tt
-  knowns-left fl fr (more e es) k h = let a = and_yes (has_all_column_refs fl e) (have_all_column_refs fl es) h in (known-left fl fr e k.0 a.0, knowns-left fl fr es k.1 a.1)
+  knowns-left fl fr (more e es) k h = let a = and_yes (has_all_column_refs (schema_columns fl) e) (have_all_column_refs (schema_columns fl) es) h in (known-left fl fr e k.0 a.0, knowns-left fl fr es k.1 a.1)
 
 mutual
   unfolding has_all_column_refs
 
-  pub known-right : (fl fr : List Field) (e : Expr) → Known (fl ++ fr) e → T (has_all_column_refs fr e) → Known fr e
-  known-right fl fr (reference r) k h = known-means (means-right r fl fr (seek r (fl ++ fr)) k (any_place (may_mean r) fr h))
+  pub known-right : (fl fr : List Field) (e : Expr) → Known (fl ++ fr) e → T (has_all_column_refs (schema_columns fr) e) → Known fr e
+  known-right fl fr (reference r) k h = known-means (means-right r fl fr (seek r (fl ++ fr)) k (any_place (may_mean r) fr (subst T (columns-mean r fr) h)))
   known-right fl fr (literal v) k h = tt
   known-right fl fr (alias e f) k h = known-right fl fr e k h
   known-right fl fr (call n es) k h = knowns-right fl fr es k h
 
-  knowns-right : (fl fr : List Field) (es : Exprs) → Knowns (fl ++ fr) es → T (have_all_column_refs fr es) → Knowns fr es
+  knowns-right : (fl fr : List Field) (es : Exprs) → Knowns (fl ++ fr) es → T (have_all_column_refs (schema_columns fr) es) → Knowns fr es
   knowns-right fl fr none k h = tt
-  knowns-right fl fr (more e es) k h = let a = and_yes (has_all_column_refs fr e) (have_all_column_refs fr es) h in (known-right fl fr e k.0 a.0, knowns-right fl fr es k.1 a.1)
+  knowns-right fl fr (more e es) k h = let a = and_yes (has_all_column_refs (schema_columns fr) e) (have_all_column_refs (schema_columns fr) es) h in (known-right fl fr e k.0 a.0, knowns-right fl fr es k.1 a.1)
 
 module _ {F : Functions} where
   -- the value of the left column, in a joined row

@@ -13,7 +13,7 @@ use Rattle.plan.specs.Values.Value.{real as real_value, text as text_value, trut
 use Rattle.rows.proofs.Finds.{name-eq}
 use Rattle.rows.proofs.Resolving.{field-eq}
 use Rattle.rows.proofs.Words.{eval, evals}
-use Rattle.rows.specs.Rows.{literal_value, may_mean, seek, value_in}
+use Rattle.rows.specs.Rows.{literal_value, seek, value_in}
 use Rattle.rows.specs.Standing.{Known, Knowns}
 use Rattle.rows.specs.Worlds.{Fitting, Row}
 use Rattle.rewriting.specs.Extracting.{same_fields}
@@ -131,7 +131,7 @@ module _ (fs : List Field) where
     same-owned (literal v) (alias d g) h = absurd h
     same-owned (literal v) (call m ds) h = absurd h
     same-owned (reference f) (literal w) h = absurd h
-    same-owned (reference f) (reference g) h = ap (λ (r : Field). any (may_mean r) fs) (field-eq f g h)
+    same-owned (reference f) (reference g) h = ap (λ (r : Field). any (same_field r) fs) (field-eq f g h)
     same-owned (reference f) (alias d g) h = absurd h
     same-owned (reference f) (call m ds) h = absurd h
     same-owned (alias e f) (literal w) h = absurd h

@@ -31,15 +31,15 @@ use Rattle.rows.specs.Worlds.{Fitting, Row}
 use Rattle.rewriting.proofs.Carries.{Carries, Holds, alike-known, alike-owned, carries-none, merged-grown}
 use Rattle.rewriting.proofs.CarryJoins.{known-left, known-right, pick-wide}
 use Rattle.rewriting.proofs.Equals.{fields-eq}
-use Rattle.rewriting.proofs.Made.{filter-known, good-lawful, join-known, made-gives, of_refs, project-known, sort-known, then-gives}
+use Rattle.rewriting.proofs.Made.{filter-known, good-lawful, join-known, made-gives, of_refs, project-known, sort-known, then-gives, remade-gives, when-gives}
 use Rattle.rewriting.proofs.PushKeeps.{same-fields}
 use Rattle.rewriting.proofs.Splits.{Bears, Here, carries-extraction, entry_here, extraction-good}
 use Rattle.rewriting.proofs.Swaps.{Swap, SwapAll, swap-mono}
 use Rattle.rewriting.proofs.Walks.{AnyHolds, Held, SwapKeys, agree-rows, carries-held, carry-all, keys-after, list-after, swap-carry, walk_after}
-use Rattle.rewriting.specs.Extracting.{Outcome, aliased, build_extraction_projection, build_recovery_projection, built, by_place, extract_from_plan, extracted, freshly, made, merged, no_change, rebuilt, refused, same_fields, stage_of, when_new}
+use Rattle.rewriting.specs.Extracting.{Outcome, aliased, build_extraction_projection_impl, build_recovery_projection, built, by_place, extract_from_plan, build_extraction_projection, freshly, merged, no_change, rebuilt, refused, same_fields, stage_of, when_new, remade, when_extractable}
 use Rattle.rewriting.specs.Laws.{Gives}
 use Rattle.rewriting.specs.Outlay.{Tally}
-use Rattle.rewriting.specs.Routing.{Entry, Extractor, Pair, Side, empty_extractor, find_owning_input, find_sole_input, has_all_column_refs, one, owner_of, pairs_of, routing_extract, routing_extract_all, routing_extract_keys, two}
+use Rattle.rewriting.specs.Routing.{Entry, Extractor, Pair, Side, empty_extractor, find_owning_input, find_sole_input, has_all_column_refs, one, owner_of, pairs_of, routing_extract, routing_extract_all, routing_extract_keys, two, schema_columns, has_extractable_expr}
 
 abbrev pub Keeping : Functions → Plan → Plan → Type 0
 Keeping F P R = Same F R P × Good F R
@@ -60,12 +60,12 @@ fresh-widens F fs d ds =
     let q : length (map (field_of F) (refs fs)) ≡ length fs = ap length (refs-fields F fs) in
     inr (omega arith)
 
-extraction-widens : (F : Functions) (P : Plan) (d : Pair) (ds : List Pair) (cs : List Field) → Widens (fields_of F (build_extraction_projection F P (d ∷ ds) cs)) (fields_of F P)
-unfolding build_extraction_projection
+extraction-widens : (F : Functions) (P : Plan) (d : Pair) (ds : List Pair) (cs : List Field) → Widens (fields_of F (build_extraction_projection_impl F P (d ∷ ds) cs)) (fields_of F P)
+unfolding build_extraction_projection_impl
 extraction-widens F (table k q ns) d ds cs = fresh-widens F _ d ds
 extraction-widens F (projection es i) d ds cs =
-    let g = merged-grown F es (d ∷ ds) cs in
-    widens-append (map (field_of F) (merged F es (d ∷ ds) cs)) (map (field_of F) es) (map (field_of F) g.0) (ap (λ (l : List Expr). map (field_of F) l) g.1 ∙ map-append (field_of F) es g.0)
+    let g = merged-grown F i es (d ∷ ds) cs in
+    widens-append (map (field_of F) (merged F i es (d ∷ ds) cs)) (map (field_of F) es) (map (field_of F) g.0) (ap (λ (l : List Expr). map (field_of F) l) g.1 ∙ map-append (field_of F) es g.0)
 extraction-widens F (filter e i) d ds cs = fresh-widens F _ d ds
 extraction-widens F (sort ks i) d ds cs = fresh-widens F _ d ds
 extraction-widens F (limit s c i) d ds cs = fresh-widens F _ d ds
@@ -78,10 +78,10 @@ pub record Placed (F : Functions) (R P : Plan) (ps : List Pair) : Type 0 where
   pub bears : Bears F R P ps
   pub widens : Widens (fields_of F R) (fields_of F P)
 
-pub extracted-placed : (F : Functions) (P : Plan) → Good F P → (ps : List Pair) (cs : List Field) (n : Tally) → Gives (λ R. Placed F R P ps) (extracted F 0 P ps cs n)
-unfolding extracted
+pub extracted-placed : (F : Functions) (P : Plan) → Good F P → (ps : List Pair) (cs : List Field) (n : Tally) → Gives (λ R. Placed F R P ps) (build_extraction_projection F 0 P ps cs n)
+unfolding build_extraction_projection
 extracted-placed F P g [] cs n = record { bears = record { good = g; carries = carries-none P }; widens = inl refl }
-extracted-placed F P g (d ∷ ds) cs n = made-gives _ F (stage_of P) 0 (build_extraction_projection F P (d ∷ ds) cs) _ (λ a. record {
+extracted-placed F P g (d ∷ ds) cs n = made-gives _ F (stage_of P) 0 (build_extraction_projection_impl F P (d ∷ ds) cs) _ (λ a. record {
   bears = record { good = extraction-good F P g (d ∷ ds) cs a; carries = carries-extraction P g (d ∷ ds) cs };
   widens = extraction-widens F P d ds cs;
 })
@@ -101,12 +101,12 @@ unfolding build_recovery_projection
 recovered-wide F P R n σ g s w = go (same_fields (fields_of F P) (fields_of F R)) refl (eqb (length (fields_of F P)) (length (fields_of F R))) refl
   where
     go : (a : Bool) → same_fields (fields_of F P) (fields_of F R) ≡ a → (b : Bool) → eqb (length (fields_of F P)) (length (fields_of F R)) ≡ b
-        → Gives (Keeping F P) (cond a (built R n) (made F Recovery 0 (projection (cond b (by_place (fields_of F P) (fields_of F R)) (refs (fields_of F P))) R) n))
+        → Gives (Keeping F P) (cond a (built R n) (remade F Recovery 0 (projection (cond b (by_place (fields_of F P) (fields_of F R)) (refs (fields_of F P))) R) n))
     go true p b q = (same-fields s (fields-eq (fields_of F P) (fields_of F R) (subst T (sym p) tt)) (good-lawful F R g), g)
     go false p true q =
         let c : length (fields_of F P) ≡ length (fields_of F R) = eqb→eq _ _ (subst T (sym q) tt) in
         absurd (elim w [ inl e ↦ subst T p (rw e (fields-refl (fields_of F P))) | inr lt ↦ omega arith ])
-    go false p false q = made-gives _ F Recovery 0 (projection (refs (fields_of F P)) R) n (λ x. (recovery s (of_refs (Known (fields_of F R)) (fields_of F P) (project-known _ R x g)), (x, g)))
+    go false p false q = remade-gives _ F Recovery 0 (projection (refs (fields_of F P)) R) n (λ x. (recovery s (of_refs (Known (fields_of F R)) (fields_of F P) (project-known _ R x g)), (x, g)))
 
 rebuilt-wide : (F : Functions) (P R : Plan) (n : Tally) → (Passed F R → Good F R × ((σ : List ℕ) × Stands F σ R P)) → Widens (fields_of F R) (fields_of F P)
     → Gives (Keeping F P) (rebuilt F 0 (fields_of F P) R n)
@@ -115,14 +115,18 @@ rebuilt-wide F P R n f w =
     then-gives (λ q. (q ≡ R) × (Good F R × ((σ : List ℕ) × Stands F σ R P))) _ _ _ (made-gives _ F Rebuilt 0 R n (λ a. (refl, f a)))
     (λ q m h. rw h.0 (recovered-wide F P R m h.1.1.0 h.1.0 h.1.1.1 w))
 
-pub when-new : (Z : Plan → Type 0) (g : Extractor) (n : Tally) (o : Outcome) → Gives Z o → Gives Z (when_new g n o)
+pub when-new : (Z : Plan → Type 0) (g : Extractor) (n t : Tally) (o : Outcome) → Gives Z o → Gives Z (when_new g n t o)
 unfolding when_new
-when-new Z g n o h = go g.full g.new
+when-new Z g n t o h = go g.full g.new
   where
-    go : (a b : Bool) → Gives Z (cond a (refused (fault Limited Extraction 0) n) (cond b o (no_change n)))
+    go : (a b : Bool) → Gives Z (cond a (refused (fault Limited Extraction 0) t) (cond b o (no_change n)))
     go true b = tt
     go false true = h
     go false false = tt
+
+pub when-extractable : (Z : Plan → Type 0) (F : Functions) (es : List Expr) (n : Tally) (o : Outcome) → Gives Z o → Gives Z (when_extractable F es n o)
+unfolding when_extractable
+when-extractable Z F es n o h = when-gives Z (has_extractable_expr F es) n o h
 
 module _ {F : Functions} where
   -- the entries of a walk over one input, in a plan that carries its pairs
@@ -140,17 +144,17 @@ module _ {F : Functions} where
 pub filter-keeps : (F : Functions) (e : Expr) (i : Plan) (n : Tally) → Good F (filter e i) → Gives (Keeping F (filter e i)) (extract_from_plan F (filter e i) n)
 unfolding extract_from_plan
 filter-keeps F e i n g =
-    let w = routing_extract F (find_sole_input (fields_of F i)) e (empty_extractor n.next) in
-    let a = walk_after F (find_sole_input (fields_of F i)) (fields_of F i) (Here (fields_of F i)) (entry_here F (fields_of F i)) e (empty_extractor n.next) (filter-known e i g.0) in
+    let w = routing_extract F (find_sole_input (schema_columns (fields_of F i))) e (empty_extractor n.next) in
+    let a = walk_after F (find_sole_input (schema_columns (fields_of F i))) (fields_of F i) (Here (fields_of F i)) (entry_here F (fields_of F i)) e (empty_extractor n.next) (filter-known e i g.0) in
     let h : AllByRecursion (Here (fields_of F i)) w.1.entries = a.1.keeps (unfold empty_extractor in tt) in
-    when-new (Keeping F (filter e i)) w.1 _ _ (then-gives _ (Keeping F (filter e i)) _ _ (extracted-placed F i g.1 _ _ _)
+    when-extractable (Keeping F (filter e i)) F _ n _ (when-new (Keeping F (filter e i)) w.1 _ _ _ (then-gives _ (Keeping F (filter e i)) _ _ (extracted-placed F i g.1 _ _ _)
     (λ r m b. rebuilt-wide F (filter e i) (filter w.0 r) m (λ x. (
       (x, b.bears.good),
       (
         b.bears.carries.σ,
         stands-filter-carry b.bears.carries.stands e w.0 (swap-mono _ _ (here-held w.1 h b.bears.carries) a.0) (filter-known e i g.0) (filter-known w.0 r x),
       ),
-    )) b.widens))
+    )) b.widens)))
 
 -- sort
 keys-ways : (K : Field → Expr → Type 0) (ks js : List Key) → SwapKeys K ks js → map (λ k. k.direction) ks ≡ map (λ k. k.direction) js
@@ -198,23 +202,23 @@ module _ {F : Functions} where
 pub sort-keeps : (F : Functions) (ks : List Key) (i : Plan) (n : Tally) → Good F (sort ks i) → Gives (Keeping F (sort ks i)) (extract_from_plan F (sort ks i) n)
 unfolding extract_from_plan
 sort-keeps F ks i n g =
-    let w = routing_extract_keys F (find_sole_input (fields_of F i)) ks (empty_extractor n.next) in
-    let a = keys-after F (find_sole_input (fields_of F i)) (fields_of F i) (Here (fields_of F i)) (entry_here F (fields_of F i)) ks (empty_extractor n.next) (sort-known ks i g.0) in
+    let w = routing_extract_keys F (find_sole_input (schema_columns (fields_of F i))) ks (empty_extractor n.next) in
+    let a = keys-after F (find_sole_input (schema_columns (fields_of F i))) (fields_of F i) (Here (fields_of F i)) (entry_here F (fields_of F i)) ks (empty_extractor n.next) (sort-known ks i g.0) in
     let h : AllByRecursion (Here (fields_of F i)) w.1.entries = a.1.keeps (unfold empty_extractor in tt) in
-    when-new (Keeping F (sort ks i)) w.1 _ _ (then-gives _ (Keeping F (sort ks i)) _ _ (extracted-placed F i g.1 _ _ _)
+    when-extractable (Keeping F (sort ks i)) F _ n _ (when-new (Keeping F (sort ks i)) w.1 _ _ _ (then-gives _ (Keeping F (sort ks i)) _ _ (extracted-placed F i g.1 _ _ _)
     (λ r m b. rebuilt-wide F (sort ks i) (sort w.0 r) m (λ x. (
       (x, b.bears.good),
       (
         b.bears.carries.σ,
         stands-sort-carry b.bears.carries.stands ks w.0 (keys-mono _ _ (here-held w.1 h b.bears.carries) ks w.0 a.0) (sort-known ks i g.0) (sort-known w.0 r x),
       ),
-    )) b.widens))
+    )) b.widens)))
 
 -- join: an entry of a side
 Sided : List Field → List Field → Entry → Type 0
-Sided fl fr d = Known (fl ++ fr) d.1 × (find_owning_input fl fr d.1 ≡ Some d.0)
+Sided fl fr d = Known (fl ++ fr) d.1 × (find_owning_input (schema_columns fl) (schema_columns fr) d.1 ≡ Some d.0)
 
-entry-sided : (fl fr : List Field) (s : Side) (n : ℕ) (es : Exprs) (x : Name) → Known (fl ++ fr) (call n es) → find_owning_input fl fr (call n es) ≡ Some s → Sided fl fr (s, call n es, x)
+entry-sided : (fl fr : List Field) (s : Side) (n : ℕ) (es : Exprs) (x : Name) → Known (fl ++ fr) (call n es) → find_owning_input (schema_columns fl) (schema_columns fr) (call n es) ≡ Some s → Sided fl fr (s, call n es, x)
 unfolding Sided
 entry-sided fl fr s n es x k p = (k, p)
 
@@ -240,9 +244,9 @@ module _ {F : Functions} where
       let j : Known (fields_of F l ++ fields_of F r) e = alike-known (fields_of F l ++ fields_of F r) d.1 e k.3 a.0 in
       record {
         joint = j;
-        side = elim (owner-side (has_all_column_refs (fields_of F l) d.1) (has_all_column_refs (fields_of F r) d.1) d.0 a.1) [
-          | inl t ↦ inl (carries-held one ds cx f e k t.0, known-left (fields_of F l) (fields_of F r) e j (alike-owned (fields_of F l) d.1 e k.3 t.1))
-          | inr t ↦ inr (carries-held two ds cy f e k t.0, known-right (fields_of F l) (fields_of F r) e j (alike-owned (fields_of F r) d.1 e k.3 t.1))
+        side = elim (owner-side (has_all_column_refs (schema_columns (fields_of F l)) d.1) (has_all_column_refs (schema_columns (fields_of F r)) d.1) d.0 a.1) [
+          | inl t ↦ inl (carries-held one ds cx f e k t.0, known-left (fields_of F l) (fields_of F r) e j (alike-owned (schema_columns (fields_of F l)) d.1 e k.3 t.1))
+          | inr t ↦ inr (carries-held two ds cy f e k t.0, known-right (fields_of F l) (fields_of F r) e j (alike-owned (schema_columns (fields_of F r)) d.1 e k.3 t.1))
         ];
       }
 
@@ -338,11 +342,11 @@ widens-sides RightAnti a b c d p q = q
 pub join-keeps : (F : Functions) (k : JoinKind) (cs : List Expr) (l r : Plan) (n : Tally) → Good F (join k cs l r) → Gives (Keeping F (join k cs l r)) (extract_from_plan F (join k cs l r) n)
 unfolding extract_from_plan
 join-keeps F k cs l r n g =
-    let own = find_owning_input (fields_of F l) (fields_of F r) in
+    let own = find_owning_input (schema_columns (fields_of F l)) (schema_columns (fields_of F r)) in
     let w = routing_extract_all F own cs (empty_extractor n.next) in
     let a = list-after F own (fields_of F l ++ fields_of F r) (Sided (fields_of F l) (fields_of F r)) (entry-sided (fields_of F l) (fields_of F r)) cs (empty_extractor n.next) (join-known k cs l r g.0) in
     let h : AllByRecursion (Sided (fields_of F l) (fields_of F r)) w.1.entries = a.1.keeps (unfold empty_extractor in tt) in
-    when-new (Keeping F (join k cs l r)) w.1 _ _ (then-gives _ (Keeping F (join k cs l r)) _ _ (extracted-placed F l g.1 _ _ _)
+    when-extractable (Keeping F (join k cs l r)) F _ n _ (when-new (Keeping F (join k cs l r)) w.1 _ _ _ (then-gives _ (Keeping F (join k cs l r)) _ _ (extracted-placed F l g.1 _ _ _)
     (λ x m bx. then-gives _ (Keeping F (join k cs l r)) _ _ (extracted-placed F r g.2 _ _ _)
     (λ y o by. rebuilt-wide F (join k cs l r) (join k w.0 x y) o (λ s. (
       (s, bx.bears.good, by.bears.good),
@@ -352,4 +356,4 @@ join-keeps F k cs l r n g =
             (swaps-mono _ _ (held-beside x y l r w.1.entries h bx.bears.carries by.bears.carries) cs w.0 a.0) (join-known k cs l r g.0) (join-known k w.0 x y s) k,
       ),
     ))
-    (widens-sides k (fields_of F x) (fields_of F y) (fields_of F l) (fields_of F r) bx.widens by.widens))))
+    (widens-sides k (fields_of F x) (fields_of F y) (fields_of F l) (fields_of F r) bx.widens by.widens)))))

@@ -1,6 +1,7 @@
 pub mod Swaps
 pub mod Equals
 pub mod Carries
+pub mod Columns
 pub mod CarryJoins
 pub mod Walks
 pub mod Made

@@ -1,5 +1,5 @@
 -- What the questions of a made node tell, and how answers are carried from step to step.
-use Rattle.std.proofs.Common.{ℕ, Bool, true, false, T, List, [], ◌∷◌, ◌++◌, map, append-nil}
+use Rattle.std.proofs.Common.{ℕ, Bool, true, false, cond, T, List, [], ◌∷◌, ◌++◌, map, append-nil}
 use mir.Facts.{and_yes}
 use Rattle.std.specs.List.{AllByRecursion}
 use Rattle.plan.specs.Faults.{first_no}
@@ -17,9 +17,10 @@ use Rattle.plan.specs.declared.fault.Stage.{Stage}
 use Rattle.rows.proofs.Lists.{all_of_map}
 use Rattle.rows.proofs.Resolving.{all-resolved, lawful-true}
 use Rattle.rows.specs.Standing.{Good, Known, Lawful, Passed, refs}
-use Rattle.rewriting.specs.Extracting.{Outcome, and_then, built, made, made_if, no_change, refused}
+use Rattle.rewriting.specs.Extracting.{Outcome, and_then, built, made, made_if, no_change, refused, remade}
 use Rattle.rewriting.specs.Laws.{Gives}
-use Rattle.rewriting.specs.Outlay.{Tally, charged, node_space}
+use Rattle.plan.specs.Swapping.{own_space}
+use Rattle.rewriting.specs.Outlay.{Tally, charged}
 use Rattle.rewriting.specs.Pushing.{or_keep}
 
 pub every-all : {A : Type 0} (p : A → Bool) (xs : List A) → T (every p xs) → AllByRecursion (λ x. T (p x)) xs
@@ -73,11 +74,19 @@ made-gives Q F stage level p n f =
     go (every (resolved (input_fields F p)) (expressions_of p)) (lawful (joint_fields F p)) (limited F p) (λ a b c. f (record { resolves = a; lists = b; limits = c }))
   where
     go : (a b c : Bool) → (T a → T b → T c → Q p)
-        → Gives Q (made_if (first_no ((ResolvedQuestion, a) ∷ (LawfulQuestion, b) ∷ (LimitedQuestion, c) ∷ [])) stage level p (charged (node_space F p) n))
+        → Gives Q (made_if (first_no ((ResolvedQuestion, a) ∷ (LawfulQuestion, b) ∷ (LimitedQuestion, c) ∷ [])) stage level p (charged (own_space F p) n))
     go true true true f = f tt tt tt
     go true true false f = tt
     go true false c f = tt
     go false b c f = tt
+
+pub remade-gives : (Q : Plan → Type 0) (F : Functions) (stage : Stage) (level : ℕ) (p : Plan) (n : Tally) → (Passed F p → Q p) → Gives Q (remade F stage level p n)
+unfolding remade
+remade-gives Q F stage level p n f = made-gives Q F stage level p _ f
+
+pub when-gives : (Q : Plan → Type 0) (b : Bool) (n : Tally) (o : Outcome) → Gives Q o → Gives Q (cond b o (no_change n))
+when-gives Q true n o h = h
+when-gives Q false n o h = tt
 
 pub then-gives : (Q Z : Plan → Type 0) (o : Outcome) (f : Plan → Tally → Outcome) → Gives Q o → ((p : Plan) (n : Tally) → Q p → Gives Z (f p n)) → Gives Z (and_then o f)
 unfolding and_then

@@ -12,7 +12,9 @@ use Rattle.plan.specs.Plans.{Key, Plan, fields_of}
 use Rattle.plan.specs.Plans.Plan.{aggregate, filter, join, limit, projection, sort, subquery_alias, table, union}
 use Rattle.plan.specs.Questions.{expressions_of, input_fields}
 use Rattle.plan.specs.Rendering.{unqualified_field}
-use Rattle.plan.specs.Terms.{Expr, Exprs, Field}
+use Rattle.std.specs.Str.{bytes_eq}
+use Rattle.plan.specs.Terms.{Expr, Exprs, Field, same_field, same_qualifier}
+use Rattle.plan.specs.Terms.Qualifier.{unqualified}
 use Rattle.plan.specs.Terms.Expr.{alias, call, literal, reference}
 use Rattle.plan.specs.Terms.Exprs.{more, none}
 use Rattle.plan.specs.declared.code.JoinKind.{JoinKind}
@@ -21,16 +23,15 @@ use Rattle.plan.specs.declared.code.Rule.TheVariants.{Always, AnyColumn, FirstCo
 use Rattle.plan.specs.declared.fault.Question.TheVariants.{Limited}
 use Rattle.plan.specs.declared.fault.Stage.TheVariants.{Extraction, Rebuilt, Recovery}
 use Rattle.rows.proofs.Lists.{all_split}
-use Rattle.rows.specs.Rows.{may_mean, under}
 use Rattle.rewriting.proofs.Fresh.{lower-differs}
-use Rattle.rewriting.proofs.Made.{gives-weaker, made-gives, then-gives}
+use Rattle.rewriting.proofs.Made.{gives-weaker, made-gives, then-gives, remade-gives, when-gives}
 use Rattle.rewriting.proofs.Walks.{entered-held}
-use Rattle.rewriting.specs.Extracting.{Outcome, build_recovery_projection, built, extract_from_plan, made, no_change, rebuilt, refused, same_fields, when_new}
+use Rattle.rewriting.specs.Extracting.{Outcome, build_recovery_projection, built, extract_from_plan, no_change, rebuilt, refused, same_fields, when_new, remade, when_extractable}
 use Rattle.rewriting.specs.Generated.{countable, generated}
 use Rattle.rewriting.specs.Laws.{Gives}
 use Rattle.rewriting.specs.Marked.{ExtractLeavesNothing, IsOrRecovers, NothingLeft, RebuiltAs, marked_left, marked_left_all, owner_in}
 use Rattle.rewriting.specs.Outlay.{Tally}
-use Rattle.rewriting.specs.Routing.{Extractor, Side, add_extracted, empty_extractor, entered, find_owning_input, find_sole_input, has_all_column_refs, have_all_column_refs, noted, owner_of, routing_extract, routing_extract_all, routing_extract_keys, routing_extracts, taken_if, under_alias, under_call}
+use Rattle.rewriting.specs.Routing.{Extractor, Side, add_extracted, empty_extractor, entered, find_owning_input, find_sole_input, has_all_column_refs, have_all_column_refs, noted, owner_of, routing_extract, routing_extract_all, routing_extract_keys, routing_extracts, taken_if, under_alias, under_call, schema_columns, has_extractable_expr}
 use Rattle.rewriting.specs.Worked.{start}
 
 -- placements that the rules cannot tell apart
@@ -332,20 +333,21 @@ module _ (F : Functions) (fl : List Field) (o : Option (List Field)) where
     going-empty = record { absent = tt; later = omega arith }
 
 -- the numbers from start on are new to the fields of an input
-field-absent : (fs : List Field) (start k : ℕ) → AllByRecursion (λ f. number_of f.name < start) fs → start ≤ k → k ≤ most_number → any (may_mean (unqualified_field (generated k))) fs ≡ false
-unfolding may_mean under
+field-absent : (fs : List Field) (start k : ℕ) → AllByRecursion (λ f. number_of f.name < start) fs → start ≤ k → k ≤ most_number → any (same_field (unqualified_field (generated k))) (schema_columns fs) ≡ false
+unfolding schema_columns
 field-absent [] start k h l m = refl
 field-absent (f ∷ fs) start k h l m =
     let a = h.0 in
     let p = lower-differs k f.name m (omega arith) in
+    let d = and-false (same_qualifier unqualified f.qualifier) (bytes_eq (generated k) f.name) p in
     let q = field-absent fs start k h.1 l m in
     cc
 
-when-unfull : (Z : Plan → Type 0) (g : Extractor) (n : Tally) (o : Outcome) → (T (not g.full) → Gives Z o) → Gives Z (when_new g n o)
-unfolding when_new
-when-unfull Z g n o h = go g.full g.new h
+when-unfull : (Z : Plan → Type 0) (F : Functions) (es : List Expr) (g : Extractor) (n t : Tally) (o : Outcome) → (T (not g.full) → Gives Z o) → Gives Z (when_extractable F es n (when_new g n t o))
+unfolding when_extractable when_new
+when-unfull Z F es g n t o h = when-gives Z (has_extractable_expr F es) n _ (go g.full g.new h)
   where
-    go : (a b : Bool) → (T (not a) → Gives Z o) → Gives Z (cond a (refused (fault Limited Extraction 0) n) (cond b o (no_change n)))
+    go : (a b : Bool) → (T (not a) → Gives Z o) → Gives Z (cond a (refused (fault Limited Extraction 0) t) (cond b o (no_change n)))
     go true b h = tt
     go false true h = h tt
     go false false h = tt
@@ -359,9 +361,9 @@ recovers : (F : Functions) (level : ℕ) (old : List Field) (p : Plan) (n : Tall
 unfolding build_recovery_projection
 recovers F level old p n = go (same_fields old (fields_of F p)) _
   where
-    go : (b : Bool) (es : List Expr) → Gives (λ R. IsOrRecovers R p) (cond b (built p n) (made F Recovery level (projection es p) n))
+    go : (b : Bool) (es : List Expr) → Gives (λ R. IsOrRecovers R p) (cond b (built p n) (remade F Recovery level (projection es p) n))
     go true es = inl refl
-    go false es = made-gives _ F Recovery level (projection es p) n (λ a. inr (es, refl))
+    go false es = remade-gives _ F Recovery level (projection es p) n (λ a. inr (es, refl))
 
 rebuilt-left : (F : Functions) (P : Plan) (old : List Field) (node : Plan) (n : Tally) → RebuiltAs P node → T (every (λ e. not (marked_left F (owner_in F P) e)) (expressions_of node))
     → Gives (NothingLeft F P) (rebuilt F 0 old node n)
@@ -370,23 +372,23 @@ rebuilt-left F P old node n k c =
     then-gives (λ q. q ≡ node) _ _ _ (made-gives _ F Rebuilt 0 node n (λ a. refl)) (λ q m e. rw e (gives-weaker (λ R. IsOrRecovers R node) (NothingLeft F P) _ (λ R a. record { node = node; answer = a; kind = k; clean = c }) (recovers F 0 old node m)))
 
 module _ (F : Functions) (i : Plan) (n : Tally) (h : AllByRecursion (λ f. number_of f.name < n.next) (fields_of F i)) where
-  sole-new : (k : ℕ) → n.next ≤ k → k ≤ most_number → Absent F (fields_of F i) None (generated k)
+  sole-new : (k : ℕ) → n.next ≤ k → k ≤ most_number → Absent F (schema_columns (fields_of F i)) None (generated k)
   unfolding Absent has_all_column_refs
   sole-new k l m = (field-absent (fields_of F i) n.next k h l m, refl)
 
   filter-left : (e : Expr) → Gives (NothingLeft F (filter e i)) (extract_from_plan F (filter e i) n)
   unfolding extract_from_plan owner_in find_sole_input
   filter-left e =
-      when-unfull _ _ _ _ (λ u. then-gives (λ p. Unit {0}) _ _ _ (any-gives _) (λ r m t.
-      rebuilt-left F (filter e i) _ (filter (routing_extract F (find_sole_input (fields_of F i)) e (empty_extractor n.next)).0 r) m (_, r, refl)
-      (yes_and _ _ (one-clean F (fields_of F i) None n.next sole-new e (empty_extractor n.next) u (going-empty F (fields_of F i) None n.next sole-new)) tt)))
+      when-unfull _ F _ _ _ _ _ (λ u. then-gives (λ p. Unit {0}) _ _ _ (any-gives _) (λ r m t.
+      rebuilt-left F (filter e i) _ (filter (routing_extract F (find_sole_input (schema_columns (fields_of F i))) e (empty_extractor n.next)).0 r) m (_, r, refl)
+      (yes_and _ _ (one-clean F (schema_columns (fields_of F i)) None n.next sole-new e (empty_extractor n.next) u (going-empty F (schema_columns (fields_of F i)) None n.next sole-new)) tt)))
 
   sort-left : (ks : List Key) → Gives (NothingLeft F (sort ks i)) (extract_from_plan F (sort ks i) n)
   unfolding extract_from_plan owner_in find_sole_input
   sort-left ks =
-      when-unfull _ _ _ _ (λ u. then-gives (λ p. Unit {0}) _ _ _ (any-gives _) (λ r m t.
-      rebuilt-left F (sort ks i) _ (sort (routing_extract_keys F (find_sole_input (fields_of F i)) ks (empty_extractor n.next)).0 r) m (_, r, refl)
-      (keys-clean F (fields_of F i) None n.next sole-new ks (empty_extractor n.next) u (going-empty F (fields_of F i) None n.next sole-new)).0))
+      when-unfull _ F _ _ _ _ _ (λ u. then-gives (λ p. Unit {0}) _ _ _ (any-gives _) (λ r m t.
+      rebuilt-left F (sort ks i) _ (sort (routing_extract_keys F (find_sole_input (schema_columns (fields_of F i))) ks (empty_extractor n.next)).0 r) m (_, r, refl)
+      (keys-clean F (schema_columns (fields_of F i)) None n.next sole-new ks (empty_extractor n.next) u (going-empty F (schema_columns (fields_of F i)) None n.next sole-new)).0))
 
   every-join : (p : Expr → Bool) (xs ys : List Expr) → T (every p xs) → T (every p ys) → T (every p (xs ++ ys))
   every-join p [] ys a b = b
@@ -395,12 +397,12 @@ module _ (F : Functions) (i : Plan) (n : Tally) (h : AllByRecursion (λ f. numbe
   aggregate-left : (gs ts : List Expr) → Gives (NothingLeft F (aggregate gs ts i)) (extract_from_plan F (aggregate gs ts i) n)
   unfolding extract_from_plan owner_in find_sole_input
   aggregate-left gs ts =
-      let own = find_sole_input (fields_of F i) in
+      let own = find_sole_input (schema_columns (fields_of F i)) in
       let w = routing_extract_all F own gs (empty_extractor n.next) in
       let v = routing_extract_all F own ts w.1 in
-      when-unfull _ v.1 _ _ (λ u.
-      let a = list-clean F (fields_of F i) None n.next sole-new gs (empty_extractor n.next) (list-unfull F (fields_of F i) None n.next sole-new ts w.1 u) (going-empty F (fields_of F i) None n.next sole-new) in
-      let b = list-clean F (fields_of F i) None n.next sole-new ts w.1 u a.1 in
+      when-unfull _ F _ v.1 _ _ _ (λ u.
+      let a = list-clean F (schema_columns (fields_of F i)) None n.next sole-new gs (empty_extractor n.next) (list-unfull F (schema_columns (fields_of F i)) None n.next sole-new ts w.1 u) (going-empty F (schema_columns (fields_of F i)) None n.next sole-new) in
+      let b = list-clean F (schema_columns (fields_of F i)) None n.next sole-new ts w.1 u a.1 in
       then-gives (λ p. Unit {0}) _ _ _ (any-gives _) (λ r m t.
       rebuilt-left F (aggregate gs ts i) _ (aggregate w.0 v.0 r) m (_, _, r, refl) (every-join _ w.0 v.0 a.0 b.0)))
 
@@ -408,11 +410,11 @@ join-left : (F : Functions) (k : JoinKind) (cs : List Expr) (l r : Plan) (n : Ta
     → Gives (NothingLeft F (join k cs l r)) (extract_from_plan F (join k cs l r) n)
 unfolding extract_from_plan owner_in find_owning_input
 join-left F k cs l r n h =
-    when-unfull _ _ _ _ (λ u. then-gives (λ p. Unit {0}) _ _ _ (any-gives _) (λ x m t. then-gives (λ p. Unit {0}) _ _ _ (any-gives _) (λ y o s.
-    rebuilt-left F (join k cs l r) _ (join k (routing_extract_all F (find_owning_input (fields_of F l) (fields_of F r)) cs (empty_extractor n.next)).0 x y) o (_, x, y, refl)
-    (list-clean F (fields_of F l) (Some (fields_of F r)) n.next new cs (empty_extractor n.next) u (going-empty F (fields_of F l) (Some (fields_of F r)) n.next new)).0)))
+    when-unfull _ F _ _ _ _ _ (λ u. then-gives (λ p. Unit {0}) _ _ _ (any-gives _) (λ x m t. then-gives (λ p. Unit {0}) _ _ _ (any-gives _) (λ y o s.
+    rebuilt-left F (join k cs l r) _ (join k (routing_extract_all F (find_owning_input (schema_columns (fields_of F l)) (schema_columns (fields_of F r))) cs (empty_extractor n.next)).0 x y) o (_, x, y, refl)
+    (list-clean F (schema_columns (fields_of F l)) (Some (schema_columns (fields_of F r))) n.next new cs (empty_extractor n.next) u (going-empty F (schema_columns (fields_of F l)) (Some (schema_columns (fields_of F r))) n.next new)).0)))
   where
-    new : (j : ℕ) → n.next ≤ j → j ≤ most_number → Absent F (fields_of F l) (Some (fields_of F r)) (generated j)
+    new : (j : ℕ) → n.next ≤ j → j ≤ most_number → Absent F (schema_columns (fields_of F l)) (Some (schema_columns (fields_of F r))) (generated j)
     new j a b = let s = all_split _ (fields_of F l) (fields_of F r) h in unfold Absent in unfold has_all_column_refs in (field-absent (fields_of F l) n.next j s.0 a b, field-absent (fields_of F r) n.next j s.1 a b)
 
 left-gives : (F : Functions) (P : Plan) (n : Tally) → AllByRecursion (λ f. number_of f.name < n.next) (input_fields F P) → Gives (NothingLeft F P) (extract_from_plan F P n)

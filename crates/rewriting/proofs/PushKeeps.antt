@@ -15,17 +15,17 @@ use Rattle.rows.proofs.Words.{rows}
 use Rattle.rows.specs.Standing.{Good, Goods, Known, Lawful, Same, Stands, pick, refs}
 use Rattle.rewriting.proofs.Carries.{carries-filter, carries-limit, carries-sort}
 use Rattle.rewriting.proofs.Equals.{fields-eq}
-use Rattle.rewriting.proofs.Made.{filter-known, good-lawful, made-gives, of_refs, project-known, sort-known, then-gives}
+use Rattle.rewriting.proofs.Made.{filter-known, good-lawful, of_refs, project-known, remade-gives, sort-known, then-gives, when-gives}
 use Rattle.rewriting.proofs.Pushes.{WorkSound, join-into, one-into, project-sound, subquery-into, worker-sound}
 use Rattle.rewriting.proofs.Splits.{Answer, Bears, IntoSound}
 use Rattle.rewriting.proofs.Unions.{BearsAll, union-united}
-use Rattle.rewriting.specs.Extracting.{Outcome, built, made, same_fields}
+use Rattle.rewriting.specs.Extracting.{Outcome, built, same_fields, remade}
 use Rattle.rewriting.specs.Laws.{Gives}
 use Rattle.rewriting.specs.Outlay.{Tally}
-use Rattle.rewriting.specs.Pushing.{IntoAll, Work, closed, into_union, not_tried, push, remap_columns, remap_pairs, work, works}
+use Rattle.rewriting.specs.Pushing.{IntoAll, Work, closed, into_union, not_tried, push, remap_columns, remap_pairs, work, works, anyway, has_pairs}
 use Rattle.rewriting.specs.Routing.{Pair}
 
-not-tried : (F : Functions) (P : Plan) → IntoSound F P not_tried
+not-tried : (F : Functions) (P : Plan) → IntoSound F P (anyway not_tried)
 unfolding not_tried
 not-tried F P ps cs whole level n k = tt
 
@@ -33,17 +33,17 @@ abbrev WorksSound : Functions → Plans → IntoAll → Type 0
 WorksSound F is ws = (from : List Field) (ps : List Pair) (cs : List Field) (level : ℕ) (n : Tally) (k : Plans → Tally → Outcome) (Q : Plan) (qs : List Pair)
     → ((rs : Plans) (o : Tally) → BearsAll F from ps is rs → Gives (λ R. Bears F R Q qs) (k rs o)) → Gives (λ R. Bears F R Q qs) (ws from ps cs level n k)
 
-union-into : (F : Functions) (i : Plan) (is : Plans) → Good F (union i is) → (w : Work) (ws : IntoAll) → WorkSound F i w → WorksSound F is ws → IntoSound F (union i is) (into_union F i is w ws)
+union-into : (F : Functions) (i : Plan) (is : Plans) → Good F (union i is) → (w : Work) (ws : IntoAll) → WorkSound F i w → WorksSound F is ws → IntoSound F (union i is) (anyway (into_union F i is w.place ws))
 unfolding into_union
 union-into F i is g w ws s ss ps cs whole level n k =
-    then-gives _ _ _ _ (s.place _ _ level n) (λ r m b.
-    ss (fields_of F (union i is)) ps cs level m _ (union i is) ps (λ rs o bs. union-united F level ps i is r rs o g k b bs))
+    when-gives _ (has_pairs ps) n _ (then-gives _ _ _ _ (s.place _ _ level _) (λ r m b.
+    ss (fields_of F (union i is)) ps cs level m _ (union i is) ps (λ rs o bs. union-united F level ps i is r rs o g k b bs)))
 
 mutual
   unfolding work
 
   work-sound : (F : Functions) (P : Plan) → Good F P → WorkSound F P (work F P)
-  work-sound F (table k q ns) g = worker-sound F (table k q ns) g not_tried (not-tried F _)
+  work-sound F (table k q ns) g = worker-sound F (table k q ns) g (anyway not_tried) (not-tried F _)
   work-sound F (projection es i) g = project-sound F es i g (work F i) (work-sound F i g.1)
   work-sound F (filter e i) g =
       worker-sound F (filter e i) g _ (one-into F (filter e) i (work F i) (work-sound F i g.1) (λ R ps b x. record {
@@ -63,12 +63,12 @@ mutual
   work-sound F (join k es l r) g = worker-sound F (join k es l r) g _ (join-into F k es l r g (work F l) (work F r) (work-sound F l g.1) (work-sound F r g.2))
   work-sound F (subquery_alias s i) g = worker-sound F (subquery_alias s i) g _ (subquery-into F s i g.1 (work F i) (work-sound F i g.1))
   work-sound F (union i is) g = worker-sound F (union i is) g _ (union-into F i is g (work F i) (works F is) (work-sound F i g.1) (works-sound F is g.2))
-  work-sound F (aggregate gs ts i) g = worker-sound F (aggregate gs ts i) g not_tried (not-tried F _)
+  work-sound F (aggregate gs ts i) g = worker-sound F (aggregate gs ts i) g (anyway not_tried) (not-tried F _)
 
   works-sound : (F : Functions) (is : Plans) → Goods F is → WorksSound F is (works F is)
   works-sound F done g from ps cs level n k Q qs f = f done n tt
   works-sound F (also i is) g from ps cs level n k Q qs f =
-      then-gives _ _ _ _ ((work-sound F i g.0).place (remap_pairs from (fields_of F i) ps) (remap_columns from (fields_of F i) cs) level n)
+      then-gives _ _ _ _ ((work-sound F i g.0).place (remap_pairs from (fields_of F i) ps) (remap_columns from (fields_of F i) cs) level _)
       (λ r m b. works-sound F is g.1 from ps cs level m _ Q qs (λ rs o bs. f (also r rs) o (b, bs)))
 
 module _ {F : Functions} where
@@ -84,9 +84,9 @@ closed-keeps : (F : Functions) (P R : Plan) (n : Tally) → Answer F R P → Giv
 unfolding closed
 closed-keeps F P R n a = go (same_fields (fields_of F P) (fields_of F R)) (λ t. fields-eq (fields_of F P) (fields_of F R) t)
   where
-    go : (b : Bool) → (T b → fields_of F P ≡ fields_of F R) → Gives (λ R. Same F R P × Good F R) (cond b (built R n) (made F Closing 0 (projection (refs (fields_of F P)) R) n))
+    go : (b : Bool) → (T b → fields_of F P ≡ fields_of F R) → Gives (λ R. Same F R P × Good F R) (cond b (built R n) (remade F Closing 0 (projection (refs (fields_of F P)) R) n))
     go true f = (same-fields a.stands (f tt) (good-lawful F R a.good), a.good)
-    go false f = made-gives _ F Closing 0 (projection (refs (fields_of F P)) R) n (λ x. (recovery a.stands (of_refs (Known (fields_of F R)) (fields_of F P) (project-known _ R x a.good)), (x, a.good)))
+    go false f = remade-gives _ F Closing 0 (projection (refs (fields_of F P)) R) n (λ x. (recovery a.stands (of_refs (Known (fields_of F R)) (fields_of F P) (project-known _ R x a.good)), (x, a.good)))
 
 pub push-keeps : (F : Functions) (P : Plan) (n : Tally) → Good F P → Gives (λ R. Same F R P × Good F R) (push F P n)
 unfolding push

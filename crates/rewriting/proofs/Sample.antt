@@ -9,10 +9,10 @@ use Rattle.rows.specs.Rows.{may_mean, seek, under}
 use Rattle.rows.specs.Standing.{pads_left, pads_right}
 use Rattle.rewriting.specs.Generated.{book_names, countable, digits_onto, expr_names, field_names, generated, highest, list_names, literal_names, next_number, node_names, plan_names, qualifier_names}
 use Rattle.plan.specs.Swapping.{count_inputs, own_bytes, own_entries, own_space}
-use Rattle.rewriting.specs.Outlay.{after_walk, charged, entries_of, list_space, node_space, plus, start_at, tree_space}
-use Rattle.rewriting.specs.Routing.{has_all_column_refs, have_all_column_refs, same_side, owner_of, find_sole_input, find_owning_input, empty_extractor, need, needs, noted, entered, add_extracted, taken_if, under_alias, under_call, routing_extract, routing_extracts, routing_extract_all, routing_extract_keys, unalias, pairs_of, needed_of}
-use Rattle.rewriting.specs.Extracting.{and_then, made_if, made, replace_cols, replace_cols_all, add_pair, add_pairs, add_column, add_columns, merged, freshly, build_extraction_projection, trial_space, stage_of, extracted, same_fields, by_place, build_recovery_projection, rebuilt, when_new, extract_from_plan}
-use Rattle.rewriting.specs.Pushing.{is_extracted, captured, back_to, walked, split_one, split_all, same_set, recover_push, or_in_place, push_split, split_and_push, or_keep, worker, not_tried, into_one, remap, remap_all, remap_pairs, remap_columns, into_subquery_alias, is_one, is_two, place_if, side_allows, into_join, is_pure, into_projection, same_places, aliases_of, places_in, fits_places, all_fit_places, united, into_union, work, works, closed, push}
+use Rattle.rewriting.specs.Outlay.{after_walk, charged, entries_of, list_space, start_at, tree_space}
+use Rattle.rewriting.specs.Routing.{has_all_column_refs, have_all_column_refs, same_side, owner_of, find_sole_input, find_owning_input, empty_extractor, need, needs, noted, entered, add_extracted, taken_if, under_alias, under_call, routing_extract, routing_extracts, routing_extract_all, routing_extract_keys, unalias, pairs_of, needed_of, schema_columns, holds_marked, hold_marked, has_extractable_expr}
+use Rattle.rewriting.specs.Extracting.{and_then, made_if, made, add_pair, add_pairs, add_column, add_columns, merged, freshly, build_extraction_projection_impl, stage_of, build_extraction_projection, same_fields, by_place, build_recovery_projection, rebuilt, when_new, extract_from_plan, remade, replace_cols_by_name, replace_cols_by_names, resolved_in, extraction_space, when_extractable}
+use Rattle.rewriting.specs.Pushing.{is_extracted, enter, captured, back_to, walked, split_one, split_all, same_set, recover_push, or_in_place, push_split, split_and_push, or_keep, worker, not_tried, into_one, remap, remap_pairs, remap_columns, remapped, into_subquery_alias, is_one, is_two, place_if, side_allows, into_join, is_pure, into_projection, same_places, aliases_of, places_in, fits_places, all_fit_places, united, into_union, work, works, closed, push, is_extraction, shows_aliases, placed, rebuilt_over, column_set, column_or, has_pairs, routable, to_one, to_two, route_to_inputs, when_routed, is_pure_extraction_projection}
 use Rattle.plan.specs.Terms.Expr.{reference}
 use Rattle.rewriting.specs.Worked.{functions, event, log, with_e, E, spot}
 use Rattle.rewriting.specs.Book.{Added, Helpers, Standing, Answers}
@@ -74,7 +74,7 @@ extract-adds = record {
     stand (suc (suc (suc (suc (suc k))))) c d = absurd (omega arith)
 
 extracted-node : Answers before (extract 1) (made_node 4) after
-unfolding keep start_at charged after_walk plus entries_of tree_space list_space count_inputs own_entries own_bytes own_space node_space literal_names field_names qualifier_names expr_names may_mean seek under pads_left pads_right digits_onto generated countable has_all_column_refs have_all_column_refs same_side owner_of find_sole_input find_owning_input empty_extractor need needs noted entered add_extracted taken_if under_alias under_call routing_extract routing_extracts routing_extract_all routing_extract_keys unalias pairs_of needed_of and_then made_if made replace_cols replace_cols_all add_pair add_pairs add_column add_columns merged freshly build_extraction_projection trial_space stage_of extracted same_fields by_place build_recovery_projection rebuilt when_new extract_from_plan is_extracted captured back_to walked split_one split_all same_set recover_push or_in_place push_split split_and_push or_keep worker not_tried into_one remap remap_all remap_pairs remap_columns into_subquery_alias is_one is_two place_if side_allows into_join is_pure into_projection same_places aliases_of places_in fits_places all_fit_places united into_union work works closed push list_names plan_names node_names book_names next_number highest
+unfolding keep start_at charged after_walk entries_of tree_space list_space count_inputs own_entries own_bytes own_space literal_names field_names qualifier_names expr_names may_mean seek under pads_left pads_right digits_onto generated countable schema_columns has_all_column_refs have_all_column_refs same_side owner_of find_sole_input find_owning_input empty_extractor need needs noted entered add_extracted taken_if under_alias under_call routing_extract routing_extracts routing_extract_all routing_extract_keys unalias pairs_of needed_of and_then made_if made add_pair add_pairs add_column add_columns merged freshly build_extraction_projection_impl stage_of build_extraction_projection same_fields by_place build_recovery_projection rebuilt when_new extract_from_plan is_extracted enter captured back_to walked split_one split_all same_set recover_push or_in_place push_split split_and_push or_keep worker not_tried into_one remap remap_pairs remap_columns remapped into_subquery_alias is_one is_two place_if side_allows into_join is_pure into_projection same_places aliases_of places_in fits_places all_fit_places united into_union work works closed push list_names plan_names node_names book_names next_number highest holds_marked hold_marked has_extractable_expr remade replace_cols_by_name replace_cols_by_names resolved_in extraction_space when_extractable is_extraction shows_aliases placed rebuilt_over column_set column_or has_pairs routable to_one to_two route_to_inputs when_routed is_pure_extraction_projection
 extracted-node = (lit< tt, (recovery, _, refl, extract-adds, lit≤ tt), record { exprs = lit≤ tt; plans = lit≤ tt; entries = lit≤ tt; fields = lit≤ tt; bytes = lit≤ tt })
 
 swapped-node : Answers limited (swap 5 0 4) (made_node 6) sample_end

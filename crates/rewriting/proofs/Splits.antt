@@ -1,5 +1,5 @@
 -- A projection's push: the split, the recovery, and the push over a node.
-use Rattle.std.proofs.Common.{◌≡◌, ℕ, Bool, true, false, cond, ◌&&◌, T, eqb, List, [], ◌∷◌, map, length, get_or, Some, sym, refl, ◌∙◌, subst, inl, arith}
+use Rattle.std.proofs.Common.{◌≡◌, ℕ, suc, Bool, true, false, cond, ◌&&◌, ◌||◌, T, eqb, List, [], ◌∷◌, ◌++◌, map, length, get_or, Some, sym, refl, ap, ◌∙◌, subst, inl, inr, suc-le-suc, zero-le, arith}
 use mir.Facts.{and_yes}
 use Rattle.std.proofs.ByRecursion.{all-has, All-map, All-push, All-weaker, has_push}
 use Rattle.std.specs.List.{AllByRecursion}
@@ -9,29 +9,31 @@ use Rattle.plan.specs.Names.{Name, prefixed}
 use Rattle.plan.specs.Plans.{Plan, fields_of}
 use Rattle.plan.specs.Plans.Plan.{aggregate, filter, join, limit, projection, sort, subquery_alias, table, union}
 use Rattle.plan.specs.Rendering.{field_of, unqualified_field}
-use Rattle.plan.specs.Terms.{Expr, Exprs, Field, Qualifier, is_unqualified, references_of, same_field}
+use Rattle.plan.specs.Terms.{Expr, Exprs, Field, Qualifier, is_unqualified, same_expr, same_field}
 use Rattle.plan.specs.Terms.Expr.{alias, call, literal, reference}
 use Rattle.plan.specs.Terms.Qualifier.{qualified, unqualified}
 use Rattle.plan.specs.Values.{null}
 use Rattle.plan.specs.declared.fault.Question.TheVariants.{Limited}
 use Rattle.plan.specs.declared.fault.Stage.TheVariants.{Extraction, Recovery}
 use Rattle.rows.proofs.Extract.{stands_self}
-use Rattle.rows.proofs.Finds.{covers_at, mean-trans, pick_at}
+use Rattle.rows.proofs.Finds.{covers_at, mean-trans, pick_at, name-eq}
 use Rattle.rows.proofs.Lists.{all_any, all_keep, all_two, map_on, map_with}
 use Rattle.rows.proofs.Resolving.{field-eq}
 use Rattle.rows.proofs.Words.{eval, rows}
 use Rattle.rows.specs.Rows.{rows_of, seek, value_in}
 use Rattle.rows.specs.Standing.{Covers, Good, Known, Passed, Same, Stands, at, pick, up_from}
 use Rattle.rows.specs.Worlds.{Fitting, Row}
-use Rattle.rewriting.proofs.Carries.{Carries, Holds, carries-fresh, carries-merge}
-use Rattle.rewriting.proofs.Made.{good-lawful, made-gives, project-known, then-gives}
+use Rattle.rewriting.proofs.Carries.{Carries, Holds, carries-fresh, carries-merge, carries-none}
+use Rattle.rewriting.proofs.Made.{good-lawful, made-gives, project-known, then-gives, when-gives}
 use Rattle.rewriting.proofs.Swaps.{Swap, here, in_alias, in_call, same, swap-mono}
 use Rattle.rewriting.proofs.Walks.{After, Held, after_same, after-trans, carries-held, carry-all, held-longer, walk_after}
-use Rattle.rewriting.specs.Extracting.{Outcome, build_extraction_projection, built, made, no_change, refused, stage_of}
+use Rattle.rewriting.specs.Extracting.{Outcome, build_extraction_projection_impl, built, made, no_change, refused, stage_of, build_extraction_projection}
 use Rattle.rewriting.specs.Laws.{Gives}
-use Rattle.rewriting.specs.Outlay.{Tally, after_walk}
-use Rattle.rewriting.specs.Pushing.{Into, Split, back_to, captured, is_extracted, or_in_place, push_split, recover_push, same_set, split_all, split_and_push, split_one, walked}
-use Rattle.rewriting.specs.Routing.{Entry, Extractor, Pair, Side, empty_extractor, find_sole_input, has_all_column_refs, needed_of, one, owner_of, pairs_of, unalias}
+use Rattle.rewriting.specs.Outlay.{Tally}
+use Rattle.rewriting.specs.Pushing.{Into, Split, back_to, captured, is_extracted, or_in_place, push_split, recover_push, same_set, split_all, split_and_push, split_one, walked, is_extraction, enter}
+use Rattle.rewriting.specs.Routing.{Entry, Extractor, Pair, Side, empty_extractor, find_sole_input, has_all_column_refs, needed_of, one, owner_of, pairs_of, unalias, schema_columns, has_extractable_expr}
+use Rattle.plan.specs.Fields.{any}
+use Rattle.std.specs.Str.{bytes_eq}
 
 abbrev pub IsRef : Expr → Type 0
 IsRef (reference r) = Unit {0}
@@ -77,9 +79,9 @@ back_to_lem F K e b s = go (same_field (field_of F b) (field_of F e)) (λ h. fie
 abbrev pub Here : List Field → Entry → Type 0
 Here fs d = (d.0 ≡ one) × Known fs d.1
 
-owned-one : (fs : List Field) (e : Expr) (s : Side) → find_sole_input fs e ≡ Some s → s ≡ one
+owned-one : (fs : List Field) (e : Expr) (s : Side) → find_sole_input (schema_columns fs) e ≡ Some s → s ≡ one
 unfolding find_sole_input owner_of
-owned-one fs e s p = go (has_all_column_refs fs e) p
+owned-one fs e s p = go (has_all_column_refs (schema_columns fs) e) p
   where
     go : (b : Bool) → owner_of b false ≡ Some s → s ≡ one
     go true p = cc
@@ -89,45 +91,68 @@ bare-none : (q : Qualifier) → T (is_unqualified q) → q ≡ unqualified
 bare-none unqualified h = refl
 bare-none (qualified a) h = absurd h
 
+-- an expression that stands under an alias is held
+has-entered : (e : Expr) (x : Name) (ds : List Entry) → T (any (λ c. same_expr c.1 e && bytes_eq c.2 x) ds) → Held ds (unqualified_field x) e
+has-entered e x [] h = absurd h
+has-entered e x (d ∷ ds) h = go (same_expr d.1 e && bytes_eq d.2 x) (λ t. and_yes (same_expr d.1 e) (bytes_eq d.2 x) t) h (λ k. has-entered e x ds k)
+  where
+    go : (b : Bool) → (T b → T (same_expr d.1 e) × T (bytes_eq d.2 x)) → T (b || any (λ c. same_expr c.1 e && bytes_eq c.2 x) ds)
+        → (T (any (λ c. same_expr c.1 e && bytes_eq c.2 x) ds) → Held ds (unqualified_field x) e) → Held (d ∷ ds) (unqualified_field x) e
+    go true f h k = let a = f tt in (d, (0, suc-le-suc zero-le, λ c. refl), ap unqualified_field (sym (name-eq d.2 x a.1)), inr a.0)
+    go false f h k = let a = k h in (a.0, (suc a.1.0, suc-le-suc a.1.1, a.1.2), a.2, a.3)
+
 module _ (F : Functions) (fs : List Field) where
-  pub entry_here : (s : Side) (n : ℕ) (es : Exprs) (x : Name) → Known fs (call n es) → find_sole_input fs (call n es) ≡ Some s → Here fs (s, call n es, x)
+  pub entry_here : (s : Side) (n : ℕ) (es : Exprs) (x : Name) → Known fs (call n es) → find_sole_input (schema_columns fs) (call n es) ≡ Some s → Here fs (s, call n es, x)
   entry_here s n es x k p = (owned-one fs (call n es) s p, k)
 
   abbrev One : (e : Expr) (g : Extractor) → Expr × Extractor × Bool → Type 0
   One e g a = Back F (Held a.1.entries) e a.0 × After (Here fs) g a.1 × (T a.2 → IsRef a.0)
 
-  walked_one : (e : Expr) (g : Extractor) → Known fs e → One e g (walked F (find_sole_input fs) e g)
+  walked_one : (e : Expr) (g : Extractor) → Known fs e → One e g (walked F (find_sole_input (schema_columns fs)) e g)
   unfolding walked
-  walked_one e g k = let h = walk_after F (find_sole_input fs) fs (Here fs) entry_here e g k in (back_to_lem F _ e _ h.0, h.1, λ t. absurd t)
+  walked_one e g k = let h = walk_after F (find_sole_input (schema_columns fs)) fs (Here fs) entry_here e g k in (back_to_lem F _ e _ h.0, h.1, λ t. absurd t)
 
-  split_one_lem : (e : Expr) (g : Extractor) → Known fs e → One e g (split_one F (find_sole_input fs) e g)
+  enter-after : (e : Expr) (f : Field) (g h : Extractor) → Known fs e → h.entries ≡ enter (one, alias e f, f.name) g.entries
+      → Held h.entries (unqualified_field f.name) (alias e f) × After (Here fs) g h
+  unfolding enter
+  enter-after e f g h k p = go (any (λ c. same_expr c.1 (alias e f) && bytes_eq c.2 f.name) g.entries) (λ t. has-entered (alias e f) f.name g.entries t) p
+    where
+      d : Entry
+      d = (one, alias e f, f.name)
+
+      go : (b : Bool) → (T b → Held g.entries (unqualified_field f.name) (alias e f)) → h.entries ≡ cond b g.entries (g.entries ++ d ∷ [])
+          → Held h.entries (unqualified_field f.name) (alias e f) × After (Here fs) g h
+      go true t p = (rw p (t tt), after_same (Here fs) g h (sym p))
+      go false t p = (
+        rw p (d, has_push g.entries d, refl, inl refl),
+        record { longer = (d ∷ [], p); keeps = λ q. rw p (All-push (Here fs) g.entries d q (refl, k)) },
+      )
+
+  split_one_lem : (e : Expr) (g : Extractor) → Known fs e → One e g (split_one F (find_sole_input (schema_columns fs)) e g)
   unfolding split_one captured is_extracted
   split_one_lem (reference r) g k = (back-swap F _ (reference r) (reference r) same refl, after_same (Here fs) g _ refl, λ t. tt)
   split_one_lem (literal v) g k = walked_one (literal v) g k
   split_one_lem (alias e f) g k = go (is_extracted f) refl
     where
-      go : (b : Bool) → is_extracted f ≡ b → One (alias e f) g (cond b (captured (alias e f) e f.name (references_of e) g) (walked F (find_sole_input fs) (alias e f) g))
+      go : (b : Bool) → is_extracted f ≡ b → One (alias e f) g (cond b (captured e f g) (walked F (find_sole_input (schema_columns fs)) (alias e f) g))
       go true p =
-          let d : Entry = (one, alias e f, f.name) in
-          let q : f.qualifier ≡ unqualified = bare-none f.qualifier (and_yes (prefixed f.name) (is_unqualified f.qualifier) (subst T (sym p) tt)).1 in (
-            back-swap F _ (alias e f) (reference (unqualified_field f.name)) (here (d, has_push g.entries d, refl, inl refl)) (λ i. record { qualifier = sym q i; name = f.name }),
-            record { longer = (d ∷ [], refl); keeps = λ h. All-push (Here fs) g.entries d h (refl, k) },
-            λ t. tt,
-          )
+          let a = enter-after e f g (captured e f g).1 k refl in
+          let q : f.qualifier ≡ unqualified = bare-none f.qualifier (and_yes (prefixed f.name) (is_unqualified f.qualifier) (subst T (sym p) tt)).1 in
+          (back-swap F _ (alias e f) (reference (unqualified_field f.name)) (here a.0) (λ i. record { qualifier = sym q i; name = f.name }), a.1, λ t. tt)
       go false p = walked_one (alias e f) g k
   split_one_lem (call n es) g k = walked_one (call n es) g k
 
   pub split-all : (es : List Expr) (g : Extractor) → AllByRecursion (Known fs) es
-      → BackAll F (Held (split_all F (find_sole_input fs) es g).store.entries) es (split_all F (find_sole_input fs) es g).back
-      × After (Here fs) g (split_all F (find_sole_input fs) es g).store × (T (split_all F (find_sole_input fs) es g).whole → AllByRecursion IsRef (split_all F (find_sole_input fs) es g).back)
+      → BackAll F (Held (split_all F (find_sole_input (schema_columns fs)) es g).store.entries) es (split_all F (find_sole_input (schema_columns fs)) es g).back
+      × After (Here fs) g (split_all F (find_sole_input (schema_columns fs)) es g).store × (T (split_all F (find_sole_input (schema_columns fs)) es g).whole → AllByRecursion IsRef (split_all F (find_sole_input (schema_columns fs)) es g).back)
   unfolding split_all
   split-all [] g k = (tt, after_same (Here fs) g g refl, λ t. tt)
   split-all (e ∷ es) g k =
       let a = split_one_lem e g k.0 in
-      let b = split-all es (split_one F (find_sole_input fs) e g).1 k.1 in (
+      let b = split-all es (split_one F (find_sole_input (schema_columns fs)) e g).1 k.1 in (
         (back-mono F _ _ (held-longer _ _ b.1.longer) e _ a.0, b.0),
         after-trans (Here fs) g _ _ a.1 b.1,
-        λ t. let c = and_yes (split_one F (find_sole_input fs) e g).2 (split_all F (find_sole_input fs) es (split_one F (find_sole_input fs) e g).1).whole t in (a.2 c.0, b.2 c.1),
+        λ t. let c = and_yes (split_one F (find_sole_input (schema_columns fs)) e g).2 (split_all F (find_sole_input (schema_columns fs)) es (split_one F (find_sole_input (schema_columns fs)) e g).1).whole t in (a.2 c.0, b.2 c.1),
       )
 
 -- the recovery has the projection's fields and rows
@@ -240,8 +265,8 @@ module _ {F : Functions} where
       }
 
   -- the extraction projection over an input
-  pub carries-extraction : (P : Plan) → Good F P → (ps : List Pair) (cs : List Field) → Carries F (build_extraction_projection F P ps cs) P ps
-  unfolding build_extraction_projection
+  pub carries-extraction : (P : Plan) → Good F P → (ps : List Pair) (cs : List Field) → Carries F (build_extraction_projection_impl F P ps cs) P ps
+  unfolding build_extraction_projection_impl
   carries-extraction (table k q ns) g ps cs = carries-fresh F (table k q ns) (good-lawful F (table k q ns) g) ps
   carries-extraction (projection es i) g ps cs = carries-merge es i ps cs
   carries-extraction (filter e i) g ps cs = carries-fresh F (filter e i) (good-lawful F (filter e i) g) ps
@@ -252,8 +277,8 @@ module _ {F : Functions} where
   carries-extraction (union i is) g ps cs = carries-fresh F (union i is) (good-lawful F (union i is) g) ps
   carries-extraction (aggregate gs ts i) g ps cs = carries-fresh F (aggregate gs ts i) (good-lawful F (aggregate gs ts i) g) ps
 
-pub extraction-good : (F : Functions) (P : Plan) → Good F P → (ps : List Pair) (cs : List Field) → Passed F (build_extraction_projection F P ps cs) → Good F (build_extraction_projection F P ps cs)
-unfolding build_extraction_projection
+pub extraction-good : (F : Functions) (P : Plan) → Good F P → (ps : List Pair) (cs : List Field) → Passed F (build_extraction_projection_impl F P ps cs) → Good F (build_extraction_projection_impl F P ps cs)
+unfolding build_extraction_projection_impl
 extraction-good F (table k q ns) g ps cs a = (a, g)
 extraction-good F (projection es i) g ps cs a = (a, g.1)
 extraction-good F (filter e i) g ps cs a = (a, g)
@@ -284,17 +309,22 @@ pub pairs-all : (Q : Pair → Type 0) (s : Side) (ds : List Entry) → AllByRecu
 unfolding pairs_of
 pairs-all Q s ds h = All-map Q _ _ (all_keep _ _ ds h)
 
+pub extraction-bears : (F : Functions) (P : Plan) → Good F P → (level : ℕ) (ps : List Pair) (cs : List Field) (n : Tally) → Gives (λ R. Bears F R P ps) (build_extraction_projection F level P ps cs n)
+unfolding build_extraction_projection
+extraction-bears F P g level [] cs n = record { good = g; carries = carries-none P }
+extraction-bears F P g level (d ∷ ds) cs n =
+    made-gives _ F (stage_of P) level (build_extraction_projection_impl F P (d ∷ ds) cs) _ (λ a. record { good = extraction-good F P g (d ∷ ds) cs a; carries = carries-extraction P g (d ∷ ds) cs })
+
 module _ (F : Functions) (P : Plan) (g : Good F P) (into : Into) (sound : IntoSound F P into) where
   place-bears : (ps : List Pair) (cs : List Field) (new : Bool) (level : ℕ) (o : Outcome) → Gives (λ R. Bears F R P ps) o → Gives (λ R. Bears F R P ps) (or_in_place F P ps cs new level o)
   unfolding or_in_place
   place-bears ps cs new level (built q n) h = h
-  place-bears ps cs true level (no_change n) h =
-      made-gives _ F (stage_of P) level (build_extraction_projection F P ps cs) _ (λ a. record { good = extraction-good F P g ps cs a; carries = carries-extraction P g ps cs })
+  place-bears ps cs true level (no_change n) h = extraction-bears F P g level ps cs n
   place-bears ps cs false level (no_change n) h = tt
   place-bears ps cs new level (refused x n) h = tt
 
   abbrev the_split : List Expr → ℕ → Split
-  the_split es n = split_all F (find_sole_input (fields_of F P)) es (empty_extractor n)
+  the_split es n = split_all F (find_sole_input (schema_columns (fields_of F P))) es (empty_extractor n)
 
   recover-answers : (es : List Expr) (n : ℕ) → AllByRecursion (Known (fields_of F P)) es → (level : ℕ) (R : Plan) (m : Tally) → Bears F R P (pairs_of one (the_split es n).store.entries)
       → Gives (λ R. Answer F R (projection es P)) (recover_push F es (the_split es n) level R m)
@@ -320,7 +350,7 @@ module _ (F : Functions) (P : Plan) (g : Good F P) (into : Into) (sound : IntoSo
 
   pub over-answers : (es : List Expr) (level : ℕ) (n : Tally) → AllByRecursion (Known (fields_of F P)) es → Gives (λ R. Answer F R (projection es P)) (split_and_push F P into es level n)
   unfolding split_and_push push_split
-  over-answers es level n k = go (pairs_of one (the_split es n.next).store.entries) refl
+  over-answers es level n k = when-gives _ (any is_extraction es || has_extractable_expr F es) n _ (go (pairs_of one (the_split es n.next).store.entries) refl)
     where
       a : BackAll F (Held (the_split es n.next).store.entries) es (the_split es n.next).back × After (Here (fields_of F P)) (empty_extractor n.next) (the_split es n.next).store
           × (T (the_split es n.next).whole → AllByRecursion IsRef (the_split es n.next).back)
@@ -335,7 +365,7 @@ module _ (F : Functions) (P : Plan) (g : Good F P) (into : Into) (sound : IntoSo
       unless true k o h = tt
       unless false k o h = h
 
-      go : (ps : List Pair) → pairs_of one (the_split es n.next).store.entries ≡ ps → Gives (λ R. Answer F R (projection es P)) (push_split F P into es (the_split es n.next) level (after_walk (the_split es n.next).back (the_split es n.next).store.next n) ps)
+      go : (ps : List Pair) → pairs_of one (the_split es n.next).store.entries ≡ ps → Gives (λ R. Answer F R (projection es P)) (push_split F P into es (the_split es n.next) level n ps)
       go [] e = tt
       go (d ∷ ds) e =
           let cs = needed_of one (the_split es n.next).store.needed in

@@ -27,15 +27,15 @@ use Rattle.rows.specs.Standing.{Good, Known, Knowns, Lawful, Same, Stands, pick,
 use Rattle.rows.specs.Worlds.{Fitting, Row}
 use Rattle.rewriting.proofs.Carries.{Holds}
 use Rattle.rewriting.proofs.Equals.{fields-eq}
-use Rattle.rewriting.proofs.Extracts.{Carried, Keeping, extracted-placed, filter-keeps, here-held, join-keeps, sort-keeps, swaps-mono, when-new}
-use Rattle.rewriting.proofs.Made.{aggregate-known, every-all, good-lawful, made-gives, then-gives}
+use Rattle.rewriting.proofs.Extracts.{Carried, Keeping, extracted-placed, filter-keeps, here-held, join-keeps, sort-keeps, swaps-mono, when-extractable, when-new}
+use Rattle.rewriting.proofs.Made.{aggregate-known, every-all, good-lawful, made-gives, then-gives, remade-gives}
 use Rattle.rewriting.proofs.Splits.{Here, entry_here}
 use Rattle.rewriting.proofs.Swaps.{SwapAll, Swaps, both, same_nil, swap-mono}
 use Rattle.rewriting.proofs.Walks.{After, Held, after_same, after-trans, carry-all, held-longer, list-after, walks-after}
-use Rattle.rewriting.specs.Extracting.{build_recovery_projection, built, by_place, extract_from_plan, made, rebuilt, same_fields}
+use Rattle.rewriting.specs.Extracting.{build_recovery_projection, built, by_place, extract_from_plan, rebuilt, same_fields, remade}
 use Rattle.rewriting.specs.Laws.{Gives}
 use Rattle.rewriting.specs.Outlay.{Tally}
-use Rattle.rewriting.specs.Routing.{Extractor, Side, empty_extractor, find_sole_input, routing_extract, routing_extract_all, routing_extracts, taken_if, under_alias, under_call}
+use Rattle.rewriting.specs.Routing.{Extractor, Side, empty_extractor, find_sole_input, routing_extract, routing_extract_all, routing_extracts, taken_if, under_alias, under_call, schema_columns}
 
 -- a total, with columns for parts of what it takes
 data Head (K : Field → Expr → Type 0) : Expr → Expr → Type 0 where
@@ -81,29 +81,29 @@ not_taken false o e g w p = refl
 
 module _ (F : Functions) (fs : List Field) where
   total-after : (e : Expr) (g : Extractor) → T (is_total F e) → Known fs e
-      → Head (Held (routing_extract F (find_sole_input fs) e g).1.entries) e (routing_extract F (find_sole_input fs) e g).0 × After (Here fs) g (routing_extract F (find_sole_input fs) e g).1
+      → Head (Held (routing_extract F (find_sole_input (schema_columns fs)) e g).1.entries) e (routing_extract F (find_sole_input (schema_columns fs)) e g).0 × After (Here fs) g (routing_extract F (find_sole_input (schema_columns fs)) e g).1
   unfolding routing_extract under_alias under_call
   total-after (reference r) g t k = absurd t
   total-after (literal v) g t k = absurd t
   total-after (alias e f) g t k = go (prefixed f.name) (total-after e g t k)
     where
-      go : (b : Bool) → Head (Held (routing_extract F (find_sole_input fs) e g).1.entries) e (routing_extract F (find_sole_input fs) e g).0 × After (Here fs) g (routing_extract F (find_sole_input fs) e g).1
-          → Head (Held (cond b (alias e f, g) (under_alias f (routing_extract F (find_sole_input fs) e g))).1.entries) (alias e f) (cond b (alias e f, g) (under_alias f (routing_extract F (find_sole_input fs) e g))).0
-          × After (Here fs) g (cond b (alias e f, g) (under_alias f (routing_extract F (find_sole_input fs) e g))).1
+      go : (b : Bool) → Head (Held (routing_extract F (find_sole_input (schema_columns fs)) e g).1.entries) e (routing_extract F (find_sole_input (schema_columns fs)) e g).0 × After (Here fs) g (routing_extract F (find_sole_input (schema_columns fs)) e g).1
+          → Head (Held (cond b (alias e f, g) (under_alias f (routing_extract F (find_sole_input (schema_columns fs)) e g))).1.entries) (alias e f) (cond b (alias e f, g) (under_alias f (routing_extract F (find_sole_input (schema_columns fs)) e g))).0
+          × After (Here fs) g (cond b (alias e f, g) (under_alias f (routing_extract F (find_sole_input (schema_columns fs)) e g))).1
       go true h = (whole, after_same (Here fs) g g refl)
       go false h = (inside h.0, h.1)
   total-after (call n es) g t k =
-      let a = walks-after F (find_sole_input fs) fs (Here fs) (entry_here F fs) es g k in
-      rw (not_taken (is_marked (placement_of F (call n es))) (find_sole_input fs (call n es)) (call n es) g (under_call n (routing_extracts F (find_sole_input fs) es g)) (total-stays F n es t))
+      let a = walks-after F (find_sole_input (schema_columns fs)) fs (Here fs) (entry_here F fs) es g k in
+      rw (not_taken (is_marked (placement_of F (call n es))) (find_sole_input (schema_columns fs) (call n es)) (call n es) g (under_call n (routing_extracts F (find_sole_input (schema_columns fs)) es g)) (total-stays F n es t))
       (taking a.0, a.1)
 
   totals-after : (es : List Expr) (g : Extractor) → AllByRecursion (λ e. T (is_total F e)) es → AllByRecursion (Known fs) es
-      → HeadAll (Held (routing_extract_all F (find_sole_input fs) es g).1.entries) es (routing_extract_all F (find_sole_input fs) es g).0 × After (Here fs) g (routing_extract_all F (find_sole_input fs) es g).1
+      → HeadAll (Held (routing_extract_all F (find_sole_input (schema_columns fs)) es g).1.entries) es (routing_extract_all F (find_sole_input (schema_columns fs)) es g).0 × After (Here fs) g (routing_extract_all F (find_sole_input (schema_columns fs)) es g).1
   unfolding routing_extract_all
   totals-after [] g t k = (tt, after_same (Here fs) g g refl)
   totals-after (e ∷ es) g t k =
       let a = total-after e g t.0 k.0 in
-      let b = totals-after es (routing_extract F (find_sole_input fs) e g).1 t.1 k.1 in
+      let b = totals-after es (routing_extract F (find_sole_input (schema_columns fs)) e g).1 t.1 k.1 in
       ((head-mono _ _ (held-longer _ _ b.1.longer) a.0, b.0), after-trans (Here fs) g _ _ a.1 b.1)
 
 module _ {F : Functions} where
@@ -227,9 +227,9 @@ unfolding build_recovery_projection
 recovered-count F P R n g p q = go (same_fields (fields_of F P) (fields_of F R)) refl (eqb (length (fields_of F P)) (length (fields_of F R))) refl
   where
     go : (a : Bool) → same_fields (fields_of F P) (fields_of F R) ≡ a → (b : Bool) → eqb (length (fields_of F P)) (length (fields_of F R)) ≡ b
-        → Gives (Keeping F P) (cond a (built R n) (made F Recovery 0 (projection (cond b (by_place (fields_of F P) (fields_of F R)) (refs (fields_of F P))) R) n))
+        → Gives (Keeping F P) (cond a (built R n) (remade F Recovery 0 (projection (cond b (by_place (fields_of F P) (fields_of F R)) (refs (fields_of F P))) R) n))
     go true e b f = (record { fields_same = sym (fields-eq (fields_of F P) (fields_of F R) (subst T (sym e) tt)); rows_same = q }, g)
-    go false e true f = made-gives _ F Recovery 0 (projection (by_place (fields_of F P) (fields_of F R)) R) n (λ x. (place_same P R (good-lawful F R g) p q, (x, g)))
+    go false e true f = remade-gives _ F Recovery 0 (projection (by_place (fields_of F P) (fields_of F R)) R) n (λ x. (place_same P R (good-lawful F R g) p q, (x, g)))
     go false e false f = absurd (subst T f (rw p (eqb_refl (length (fields_of F R)))))
 
 rebuilt-count : (F : Functions) (gs ts gs' ts' : List Expr) (i r : Plan) (n : Tally) → Good F r → T (every (is_total F) ts') → length gs ≡ length gs' → length ts ≡ length ts'
@@ -249,16 +249,16 @@ aggregate-keeps : (F : Functions) (gs ts : List Expr) (i : Plan) (n : Tally) →
 unfolding extract_from_plan
 aggregate-keeps F gs ts i n g =
     let k = all_split _ gs ts (aggregate-known gs ts i g.0 g.1) in
-    let w = routing_extract_all F (find_sole_input (fields_of F i)) gs (empty_extractor n.next) in
-    let v = routing_extract_all F (find_sole_input (fields_of F i)) ts w.1 in
-    let a = list-after F (find_sole_input (fields_of F i)) (fields_of F i) (Here (fields_of F i)) (entry_here F (fields_of F i)) gs (empty_extractor n.next) k.0 in
+    let w = routing_extract_all F (find_sole_input (schema_columns (fields_of F i))) gs (empty_extractor n.next) in
+    let v = routing_extract_all F (find_sole_input (schema_columns (fields_of F i))) ts w.1 in
+    let a = list-after F (find_sole_input (schema_columns (fields_of F i))) (fields_of F i) (Here (fields_of F i)) (entry_here F (fields_of F i)) gs (empty_extractor n.next) k.0 in
     let b = totals-after F (fields_of F i) ts w.1 (every-all (is_total F) ts g.2) k.1 in
     let h : AllByRecursion (Here (fields_of F i)) v.1.entries = b.1.keeps (a.1.keeps (unfold empty_extractor in tt)) in
     let wg = swaps-mono _ _ (held-longer _ _ b.1.longer) gs w.0 a.0 in
-    when-new (Keeping F (aggregate gs ts i)) v.1 _ _ (then-gives _ (Keeping F (aggregate gs ts i)) _ _ (extracted-placed F i g.1 _ _ _)
+    when-extractable (Keeping F (aggregate gs ts i)) F _ n _ (when-new (Keeping F (aggregate gs ts i)) v.1 _ _ _ (then-gives _ (Keeping F (aggregate gs ts i)) _ _ (extracted-placed F i g.1 _ _ _)
     (λ r m p. rebuilt-count F gs ts w.0 v.0 i r m p.bears.good (heads-total F _ ts v.0 b.0 g.2) (swaps-long _ gs w.0 wg) (heads-long _ ts v.0 b.0)
     (λ kr. aggregate-rows p.bears.carries.stands gs ts w.0 v.0 (swaps-mono _ _ (here-held v.1 h p.bears.carries) gs w.0 wg)
-    (heads-mono _ _ (here-held v.1 h p.bears.carries) ts v.0 b.0) (aggregate-known gs ts i g.0 g.1) kr)))
+    (heads-mono _ _ (here-held v.1 h p.bears.carries) ts v.0 b.0) (aggregate-known gs ts i g.0 g.1) kr))))
 
 pub extract-keeps : (F : Functions) (P : Plan) (n : Tally) → Good F P → Gives (Keeping F P) (extract_from_plan F P n)
 extract-keeps F (table k q ns) n g = unfold extract_from_plan in tt

@@ -14,7 +14,6 @@ use Rattle.plan.specs.Terms.{Field}
 use Rattle.plan.specs.Terms.Expr.{reference}
 use Rattle.plan.specs.Terms.Qualifier.{unqualified}
 use Rattle.plan.specs.Values.{null}
-use Rattle.plan.specs.declared.fault.Stage.TheVariants.{Rebuilt}
 use Rattle.rows.proofs.Lists.{all_any, all-forall, all_of_map, all_two, map-append}
 use Rattle.rows.proofs.More.{covers-map, get_or-map-in}
 use Rattle.rows.proofs.Resolving.{reference-known}
@@ -24,13 +23,13 @@ use Rattle.rows.specs.Rows.{fit, may_mean, nulls, rows_of, seek, under}
 use Rattle.rows.specs.Standing.{Covers, Good, Goods, Known, Stands, at, pick, wide_all}
 use Rattle.rows.specs.Worlds.{Fitting, Row}
 use Rattle.rewriting.proofs.Carries.{Carries, Holds}
-use Rattle.rewriting.proofs.Made.{every-all, good-lawful, good-lists, made-gives}
-use Rattle.rewriting.proofs.Pushes.{name-means, rename-eval}
+use Rattle.rewriting.proofs.Made.{every-all, good-lawful, good-lists}
+use Rattle.rewriting.proofs.Pushes.{name-means, rename-eval, rebuilt-gives}
 use Rattle.rewriting.proofs.Splits.{Bears}
-use Rattle.rewriting.specs.Extracting.{made, no_change}
+use Rattle.rewriting.specs.Extracting.{no_change}
 use Rattle.rewriting.specs.Laws.{Gives}
 use Rattle.rewriting.specs.Outlay.{Tally}
-use Rattle.rewriting.specs.Pushing.{aliases_of, all_fit_places, fits_places, places_in, remap, remap_pairs, same_places, united}
+use Rattle.rewriting.specs.Pushing.{aliases_of, all_fit_places, fits_places, places_in, remap, remap_pairs, same_places, united, rebuilt_over}
 use Rattle.rewriting.specs.Routing.{Pair}
 
 places-eq : (a b : List ℕ) → T (same_places a b) → a ≡ b
@@ -262,8 +261,8 @@ union-united F level ps i is r rs n g k b bs = go _ (λ t. and_yes (fits_places 
   where
     go : (c : Bool) → (T c → T (fits_places F (length (fields_of F r)) (places_in F r (fields_of F i)) (places_in F r (aliases_of ps)) ps i r)
         × T (all_fit_places F (length (fields_of F r)) (places_in F r (fields_of F i)) (places_in F r (aliases_of ps)) ps is rs))
-        → Gives (λ R. Bears F R (union i is) ps) (cond c (made F Rebuilt level (union r rs) n) (no_change n))
-    go true f = made-gives _ F Rebuilt level (union r rs) n (λ s. record {
+        → Gives (λ R. Bears F R (union i is) ps) (cond c (rebuilt_over F level ps (union r rs) n) (no_change n))
+    go true f = rebuilt-gives _ level ps (union r rs) n (λ s. record {
       good = (s, b.good, bears-goods F (fields_of F (union i is)) ps is rs bs, all-wide F _ _ _ ps is rs (f tt).1);
       carries = carries-union i is r rs ps g k b bs (f tt).0 (f tt).1;
     })

@@ -16,7 +16,7 @@ use Rattle.plan.specs.Plans.{Plan, Key, fields_of}
 use Rattle.plan.specs.Plans.Plan.{table, projection, filter, sort, limit, aggregate, join, subquery_alias, union}
 use Rattle.plan.specs.Questions.{expressions_of, input_fields}
 use Rattle.rewriting.specs.Outlay.{Tally}
-use Rattle.rewriting.specs.Routing.{Side, find_sole_input, find_owning_input}
+use Rattle.rewriting.specs.Routing.{Side, find_sole_input, find_owning_input, schema_columns}
 use Rattle.rewriting.specs.Extracting.{built, extract_from_plan}
 
 unfoldable mutual
@@ -35,13 +35,13 @@ no_owner e = None
 
 unfoldable pub owner_in : Functions → Plan → Expr → Option Side
 owner_in F (table k q ns) = no_owner
-owner_in F (projection es i) = find_sole_input (fields_of F i)
-owner_in F (filter e i) = find_sole_input (fields_of F i)
-owner_in F (sort ks i) = find_sole_input (fields_of F i)
-owner_in F (limit s c i) = find_sole_input (fields_of F i)
-owner_in F (aggregate gs ts i) = find_sole_input (fields_of F i)
-owner_in F (join k cs l r) = find_owning_input (fields_of F l) (fields_of F r)
-owner_in F (subquery_alias n i) = find_sole_input (fields_of F i)
+owner_in F (projection es i) = find_sole_input (schema_columns (fields_of F i))
+owner_in F (filter e i) = find_sole_input (schema_columns (fields_of F i))
+owner_in F (sort ks i) = find_sole_input (schema_columns (fields_of F i))
+owner_in F (limit s c i) = find_sole_input (schema_columns (fields_of F i))
+owner_in F (aggregate gs ts i) = find_sole_input (schema_columns (fields_of F i))
+owner_in F (join k cs l r) = find_owning_input (schema_columns (fields_of F l)) (schema_columns (fields_of F r))
+owner_in F (subquery_alias n i) = find_sole_input (schema_columns (fields_of F i))
 owner_in F (union i is) = no_owner
 
 -- of the kinds that extract rebuilds

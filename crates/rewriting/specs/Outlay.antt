@@ -1,16 +1,13 @@
--- What extract and push spend: every node that their rules make, trials included, with its trees in full.
+-- What extract and push spend: all that their rules build, trials included. An expression tree is counted in full, once, where a rule builds it, whatever
+-- it shares; a plan node with its fields and the entries of its lists, when it is asked for.
 --     Tally      the next number for an alias, and the places spent so far
 --     tree_space e, list_space es      the places of an expression tree, of a list of them
---     node_space F p      the places of the node p with its expressions, without its inputs
+-- The places of a node without its expressions and inputs are `own_space` of the plan crate.
 use Rattle.std.specs.Prelude.{ℕ, ◌+◌, List, [], ◌∷◌, length, sum_by}
 use Rattle.plan.specs.Terms.{Expr, Exprs, size_of}
 use Rattle.plan.specs.Terms.Expr.{literal, reference, alias, call}
 use Rattle.plan.specs.Terms.Exprs.{none, more}
-use Rattle.plan.specs.Functions.{Functions}
-use Rattle.plan.specs.Plans.{Plan}
-use Rattle.plan.specs.Questions.{expressions_of}
-use Rattle.plan.specs.Model.{Space, space}
-use Rattle.plan.specs.Swapping.{own_space}
+use Rattle.plan.specs.Model.{Space, plus, space}
 use Rattle.rewriting.specs.Generated.{expr_names}
 
 pub record Tally : Type 0 where
@@ -19,9 +16,6 @@ pub record Tally : Type 0 where
 
 abbrev pub nothing : Space
 nothing = space 0 0 0 0 0
-
-unfoldable pub plus : Space → Space → Space
-plus a b = space (a.exprs + b.exprs) (a.plans + b.plans) (a.entries + b.entries) (a.fields + b.fields) (a.bytes + b.bytes)
 
 -- a call lists its arguments
 unfoldable mutual
@@ -42,15 +36,12 @@ unfoldable pub list_space : List Expr → Space
 list_space [] = nothing
 list_space (e ∷ es) = plus (tree_space e) (list_space es)
 
-unfoldable pub node_space : Functions → Plan → Space
-node_space F p = plus (own_space F p) (list_space (expressions_of p))
-
 unfoldable pub start_at : ℕ → Tally
 start_at n = record { next = n; spent = nothing }
 
 unfoldable pub charged : Space → Tally → Tally
 charged x t = record { next = t.next; spent = plus t.spent x }
 
--- after a walk that went on to the number n and rewrote the list es
+-- after a walk that went on to the number n and built the list es
 unfoldable pub after_walk : List Expr → ℕ → Tally → Tally
 after_walk es n t = record { next = n; spent = plus t.spent (list_space es) }

@@ -1,6 +1,8 @@
 -- Which input owns an expression, and the walk that takes Marked calls out of one.
---     has_all_column_refs fs e      each reference of e matches one of the fields fs
---     find_owning_input fl fr e      the one of two inputs that owns e; find_sole_input: of one
+--     schema_columns fs      what a reference to one of the fields fs may be: each field, and its name without qualifier
+--     has_all_column_refs cs e      each reference of e is one of the columns cs
+--     find_owning_input cl cr e      the one of two inputs that owns e, by their columns; find_sole_input: of one
+--     has_extractable_expr F es      some expression of the list is Marked, or a part of it
 --     Extractor      what a walk has found: expressions with their aliases, needed columns, the next number
 --     routing_extract F own e g      the expression with what moves replaced by references, and the extractor after it
 --     pairs_of s, needed_of s      the extracted expressions and the needed columns of one input
@@ -12,22 +14,41 @@ use Rattle.plan.specs.Terms.Exprs.{none, more}
 use Rattle.plan.specs.Functions.{Functions, placement_of, is_marked}
 use Rattle.plan.specs.Rendering.{unqualified_field}
 use Rattle.plan.specs.Fields.{any}
-use Rattle.plan.specs.Plans.{Key}
+use Rattle.plan.specs.Plans.{Key, without_qualifier}
 use Rattle.rows.specs.Lists.{keep}
-use Rattle.rows.specs.Rows.{may_mean}
 use Rattle.rewriting.specs.Generated.{generated, countable}
 
--- has_all_column_refs: with a qualifier the same field, without one the same name
+-- schema_columns
+unfoldable pub schema_columns : List Field → List Field
+schema_columns [] = []
+schema_columns (f ∷ fs) = f ∷ without_qualifier f ∷ schema_columns fs
+
+-- has_all_column_refs
 unfoldable mutual
   pub has_all_column_refs : List Field → Expr → Bool
-  has_all_column_refs fs (literal v) = true
-  has_all_column_refs fs (reference r) = any (may_mean r) fs
-  has_all_column_refs fs (alias e f) = has_all_column_refs fs e
-  has_all_column_refs fs (call n es) = have_all_column_refs fs es
+  has_all_column_refs cs (literal v) = true
+  has_all_column_refs cs (reference r) = any (same_field r) cs
+  has_all_column_refs cs (alias e f) = has_all_column_refs cs e
+  has_all_column_refs cs (call n es) = have_all_column_refs cs es
 
   pub have_all_column_refs : List Field → Exprs → Bool
-  have_all_column_refs fs none = true
-  have_all_column_refs fs (more e es) = has_all_column_refs fs e && have_all_column_refs fs es
+  have_all_column_refs cs none = true
+  have_all_column_refs cs (more e es) = has_all_column_refs cs e && have_all_column_refs cs es
+
+-- has_extractable_expr; an alias is Marked where its inside is
+unfoldable mutual
+  pub holds_marked : Functions → Expr → Bool
+  holds_marked F (literal v) = false
+  holds_marked F (reference r) = false
+  holds_marked F (alias e f) = holds_marked F e
+  holds_marked F (call n es) = is_marked (placement_of F (call n es)) || hold_marked F es
+
+  pub hold_marked : Functions → Exprs → Bool
+  hold_marked F none = false
+  hold_marked F (more e es) = holds_marked F e || hold_marked F es
+
+unfoldable pub has_extractable_expr : Functions → List Expr → Bool
+has_extractable_expr F es = any (holds_marked F) es
 
 -- the first or the second input of a node
 pub data Side : Type 0 where
@@ -39,7 +60,7 @@ same_side one two = false
 same_side two one = false
 same_side two two = true
 
--- exactly one owner
+-- find_owning_input: exactly one owner
 unfoldable pub owner_of : Bool → Bool → Option Side
 owner_of true true = None
 owner_of true false = Some one
@@ -47,15 +68,16 @@ owner_of false true = Some two
 owner_of false false = None
 
 unfoldable pub find_sole_input : List Field → Expr → Option Side
-find_sole_input fs e = owner_of (has_all_column_refs fs e) false
+find_sole_input cs e = owner_of (has_all_column_refs cs e) false
 
 unfoldable pub find_owning_input : List Field → List Field → Expr → Option Side
-find_owning_input fl fr e = owner_of (has_all_column_refs fl e) (has_all_column_refs fr e)
+find_owning_input cl cr e = owner_of (has_all_column_refs cl e) (has_all_column_refs cr e)
 
 -- of an input: an expression that was taken out, and its alias
 abbrev pub Entry : Type 0
 Entry = Side × Expr × Name
 
+-- the LeafExpressionExtractor of each input, in one; numbers are taken in the order of the walk
 pub record Extractor : Type 0 where
   pub entries : List Entry
   pub needed : List (Side × Field)
@@ -85,7 +107,7 @@ unfoldable pub entered : Expr → List Entry → Option Name
 entered e [] = None
 entered e (d ∷ ds) = cond (same_expr d.1 e) (Some d.2) (entered e ds)
 
--- add_extracted: a reference to the alias, which is a new one if the expression has none yet
+-- add_extracted: a reference to the alias, which is a new one if the expression has none yet; its columns are needed, by first occurrence
 unfoldable pub add_extracted : Side → Expr → Extractor → Option Name → Expr × Extractor
 add_extracted s e g (Some x) = (
   reference (unqualified_field x),
@@ -144,7 +166,7 @@ routing_extract_keys F own (k ∷ ks) g =
     let v = routing_extract_keys F own ks w.1 in
     (record { by = w.0; direction = k.direction } ∷ v.0, v.1)
 
--- one alias taken off
+-- unalias: one alias taken off
 unfoldable pub unalias : Expr → Expr
 unalias (literal v) = literal v
 unalias (reference r) = reference r

@@ -1,11 +1,12 @@
 -- Plans worked through: what extract and push make of them, written out.
 --     same_plan      equality of plans, as a test
 --     worked_plans_hold      all of them at once
-use Rattle.std.specs.Prelude.{ℕ, suc, ◌+◌, Bool, true, false, ◌&&◌, List, [], ◌∷◌, ◌++◌, map, pos, Some, codes, Option, ◌==◌}
+use Rattle.std.specs.Prelude.{ℕ, suc, ◌+◌, Bool, true, false, ◌&&◌, List, [], ◌∷◌, ◌++◌, map, pos, Some, codes, Option, ◌==◌, from_bits}
+use Rattle.std.specs.Float.{binary64}
 use Rattle.std.specs.Str.{bytes_eq}
-use Rattle.plan.specs.Names.{Name}
+use Rattle.plan.specs.Names.{Name, prefix}
 use Rattle.plan.specs.Terms.{Field, Expr, same_expr, same_exprs, arguments}
-use Rattle.plan.specs.Terms.Literal.{whole, text}
+use Rattle.plan.specs.Terms.Literal.{whole, real, text}
 use Rattle.plan.specs.Terms.Expr.{literal, reference, alias, call}
 use Rattle.plan.specs.Functions.{Function, Functions}
 use Rattle.plan.specs.Rendering.{field_of, unqualified_field}
@@ -13,7 +14,7 @@ use Rattle.plan.specs.Fields.{every}
 use Rattle.plan.specs.Plans.{Plan, Plans, Key, column_of}
 use Rattle.plan.specs.Plans.Plan.{table, projection, filter, sort, limit, aggregate, join, subquery_alias, union}
 use Rattle.plan.specs.Plans.Plans.{done, also}
-use Rattle.plan.specs.Model.{Space, fits}
+use Rattle.plan.specs.Model.{Space, fits, space}
 use Rattle.plan.specs.Faults.{fault, question_number, stage_number}
 use Rattle.plan.specs.declared.code.JoinKind.{JoinKind}
 use Rattle.plan.specs.declared.code.JoinKind.TheVariants.{Inner, Left, Right, Full, LeftSemi, LeftAnti, RightSemi, RightAnti}
@@ -27,7 +28,7 @@ use Rattle.plan.specs.Values.{is_null_value}
 use Rattle.plan.specs.Values.Value.{whole as whole_value}
 use Rattle.engine.specs.Arithmetic.{alike, arithmetic}
 use Rattle.rows.specs.Standing.{up_from}
-use Rattle.rewriting.specs.Generated.{digits_onto, generated}
+use Rattle.rewriting.specs.Generated.{digits_onto, generated, highest, list_names}
 use Rattle.rewriting.specs.Outlay.{nothing, start_at}
 use Rattle.rewriting.specs.Extracting.{Outcome, built, no_change, refused, extract_from_plan}
 use Rattle.rewriting.specs.Pushing.{push}
@@ -371,10 +372,97 @@ trial_number =
     push_gives (projection (alias (kind_of bare) (named (codes "k")) ∷ []) uneven)
     (built (projection (alias (reference X) (named (codes "k")) ∷ []) (projection (alias (kind_of bare) X ∷ reference bare ∷ []) uneven)) (start_at (2 + first)))
 
+-- the smallest plans on which the definitions and the Rust part; the sets of names agree, but four columns stand against three: recovered
+unfoldable pub four_for_three : Bool
+four_for_three =
+    push_after (projection (reference event ∷ reference start ∷ alias E X ∷ []) (join Inner [] log clip))
+    (built (projection (reference event ∷ reference start ∷ reference X ∷ []) (join Inner [] with_e clip)) (start_at (suc first)))
+
+-- first in one input, last in the other, where it was merged: the Union is left alone
+unfoldable pub uneven_places : Bool
+uneven_places = push_after (projection (alias (kind_of bare) X ∷ reference bare ∷ []) (union clip (also (projection (reference clip_event ∷ []) clip) done))) (no_change (start_at (suc first)))
+
+abbrev pub written : Field
+written = named (codes "log.event")
+
+-- log.event is the field of log, and not the column that is written so
+unfoldable pub flat_name : Bool
+flat_name =
+    push_after (projection (alias E X ∷ []) (projection (reference event ∷ alias (reference start) written ∷ []) log))
+    (built (projection (reference X ∷ []) (projection (reference event ∷ alias (reference start) written ∷ alias E X ∷ []) log)) (start_at (suc first)))
+
+abbrev pub record_field : Field
+record_field = column_of (codes "t") (codes "e")
+
+-- `event` means q.event, and so t.e
+unfoldable pub by_field : Bool
+by_field =
+    push_after (projection (alias (kind_of bare) X ∷ []) (projection (alias (reference record_field) (column_of (codes "q") (codes "event")) ∷ []) (table 2 (codes "t") (codes "e" ∷ []))))
+    (built (projection (reference X ∷ []) (projection (alias (reference record_field) (column_of (codes "q") (codes "event")) ∷ alias (kind_of record_field) X ∷ reference record_field ∷ []) (table 2 (codes "t") (codes "e" ∷ [])))) (start_at (suc first)))
+
+-- a name without qualifier comes out with one
+unfoldable pub qualifies : Bool
+qualifies =
+    push_after (projection (alias (kind_of bare) X ∷ []) (subquery_alias (codes "s") clip))
+    (built (projection (reference X ∷ []) (subquery_alias (codes "s") (projection (alias (kind_of clip_event) X ∷ reference clip_event ∷ []) clip))) (start_at (suc first)))
+
+abbrev pub both : Plan
+both = projection (alias E X ∷ alias E Y ∷ reference event ∷ []) log
+
+-- E stands there as X, and as Y too: it is not added again
+unfoldable pub same_alias : Bool
+same_alias =
+    same_outcome (push functions (projection (alias E X ∷ reference event ∷ []) both) (start_at (2 + first))) (built (projection (reference X ∷ reference event ∷ []) both) (start_at (2 + first)))
+
+-- log.event is not passed through beside an unqualified `event`
+unfoldable pub left_out : Bool
+left_out =
+    push_after (projection (alias (kind_of (named (codes "e"))) X ∷ []) (projection (alias (reference start) bare ∷ alias (reference event) (named (codes "e")) ∷ []) log))
+    (built (projection (reference X ∷ []) (projection (alias (reference start) bare ∷ alias (reference event) (named (codes "e")) ∷ alias E X ∷ []) log)) (start_at (suc first)))
+
+-- X means something else below an Aggregate's groups and below a list that is not wholly captured: neither is tried
+unfoldable pub untried : Bool
+untried =
+    push_after (projection (alias E X ∷ []) (aggregate (alias E₂ X ∷ reference event ∷ []) [] log)) (no_change (start_at (suc first)))
+    && push_after (projection (alias (two 2 (reference start) (number 1)) (named (codes "s")) ∷ alias E X ∷ []) (projection (alias E₂ X ∷ reference event ∷ reference start ∷ []) log)) (no_change (start_at (suc first)))
+
+-- equal expressions get one alias; 0.0 and -0.0 are not equal
+abbrev pub zero_of : ℕ → Expr
+zero_of bits = two 0 (reference event) (literal (real (from_bits binary64 bits)))
+
+unfoldable pub twice : Bool
+twice =
+    extract_gives (filter (two 1 E E) log) (built (projection (reference event ∷ reference start ∷ []) (filter (two 1 (reference X) (reference X)) with_e)) (start_at (suc first)))
+    && extract_gives (filter (two 1 (zero_of 0) (zero_of 9223372036854775808)) log) (built (projection (reference event ∷ reference start ∷ []) (filter (two 1 (reference X) (reference Y))
+    (projection (alias (zero_of 0) X ∷ alias (zero_of 9223372036854775808) Y ∷ reference event ∷ reference start ∷ []) log))) (start_at (2 + first)))
+
+-- what is Marked under a prefixed alias is left there
+unfoldable pub under_prefix : Bool
+under_prefix = extract_gives (filter (two 1 (alias E X) spot) log) (no_change (start_at first))
+
+-- the first number of a call: above all numbers after the prefix in names and text literals, and nine digits long
+unfoldable pub numbers : Bool
+numbers =
+    (suc (highest 99999999 (list_names (literal (text (generated (4 + first))) ∷ alias E X ∷ []))) == 5 + first)
+    && suc (highest 99999999 (list_names (alias E (named (prefix ++ codes "_7")) ∷ literal (text (codes "a" ++ generated (4 + first))) ∷ literal (text (generated (4 + first) ++ codes "a")) ∷ []))) == first
+
 unfoldable pub spent_in : Outcome → Space
 spent_in (built p n) = n.spent
 spent_in (no_change n) = n.spent
 spent_in (refused x n) = n.spent
+
+unfoldable pub same_space : Space → Space → Bool
+same_space a b = (a.exprs == b.exprs && a.plans == b.plans) && (a.entries == b.entries && (a.fields == b.fields && a.bytes == b.bytes))
+
+-- what the first plan spends: the condition, the list below and the list above, three nodes with 3, 3 and 2 fields. The push through a SubqueryAlias:
+-- the list that would recover, the renamed pair, the list below, the list that would recover that, the closing; three nodes of 2 fields.
+-- Nothing where nothing is taken out
+unfoldable pub spent : Bool
+spent =
+    same_space (spent_in (extract_from_plan functions (filter (two 1 E spot) log) (start_at first))) (space 11 3 9 8 112)
+    && same_space (spent_in (push functions (projection (alias (kind_of (column_of (codes "s") (codes "event"))) X ∷ reference (column_of (codes "s") (codes "event")) ∷ []) (subquery_alias (codes "s") clip)) (start_at (suc first)))) (space 14 3 8 6 185)
+    && same_space (spent_in (extract_from_plan functions (filter (two 1 (reference start) (number 5)) log) (start_at first))) nothing
+    && same_space (spent_in (push functions (projection (reference event ∷ []) (limit 0 9 log)) (start_at first))) nothing
 
 -- what the first and the sixth plan spend has room in an empty book
 unfoldable pub cheap : Bool
@@ -391,5 +479,5 @@ plan_eight =
 unfoldable pub worked_plans_hold : Bool
 worked_plans_hold =
     every (λ t. t) (
-    plan_one ∷ plan_two ∷ plan_three ∷ plan_four ∷ plan_five ∷ plan_six ∷ plan_seven ∷ plan_eight ∷ no_number ∷ two_limits ∷ renamed ∷ over_union ∷ both_sides ∷ by_place_total ∷ ambiguous ∷ deeper ∷ taken_name ∷ through_recovery ∷ trial_number ∷ cheap ∷ []
+    plan_one ∷ plan_two ∷ plan_three ∷ plan_four ∷ plan_five ∷ plan_six ∷ plan_seven ∷ plan_eight ∷ no_number ∷ two_limits ∷ renamed ∷ over_union ∷ both_sides ∷ by_place_total ∷ ambiguous ∷ deeper ∷ taken_name ∷ through_recovery ∷ trial_number ∷ four_for_three ∷ uneven_places ∷ flat_name ∷ by_field ∷ qualifies ∷ same_alias ∷ left_out ∷ untried ∷ twice ∷ under_prefix ∷ numbers ∷ spent ∷ cheap ∷ []
     )
