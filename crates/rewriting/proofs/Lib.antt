@@ -15,6 +15,7 @@ pub mod Laws
 pub mod Ring
 pub mod Worked
 pub mod Fresh
+pub mod Numbers
 pub mod Marked
 pub mod Swapping
 pub mod Building

@@ -2,7 +2,7 @@
 #![tactic(auto)]
 
 ghost use Rattle.rewriting.specs.Book.{Law};
-ghost use Rattle.rewriting.specs.Fresh.{GeneratedIsGood, GeneratedIsNew};
+ghost use Rattle.rewriting.specs.Fresh.{GeneratedIsGood, GeneratedIsNew, NumbersStay};
 ghost use Rattle.rewriting.specs.Laws.{ExtractLaw, PushLaw};
 ghost use Rattle.rewriting.specs.Marked.{ExtractLeavesNothing};
 ghost use Rattle.rewriting.specs.Reached.{ReachedHolds};
@@ -45,6 +45,11 @@ pub fn generated_is_new()
 /// A generated alias is a name that an alias may have, and its number is the one that it was made from.
 pub fn generated_is_good()
     ensures { GeneratedIsGood }
+{}
+
+/// Extract and push give no number back, whatever they come to: one that a trial took stays taken for the call.
+pub fn numbers_stay()
+    ensures { NumbersStay }
 {}
 
 /// Push is four functions that call one another, the height below the Projection falling.
