@@ -1,9 +1,38 @@
 //! A plan as an indented tree, each node with its fields and its origin.
 use book::opened::OpenBook;
+use plan::code::{Direction, JoinKind};
 use std::io;
 use std::str::from_utf8;
 use tables::node::{PlanNode, PlanRecord, Run};
 use terms::node::{Entry, ExprId, ExprNode, Literal, PlanId, Span, StoredField};
+
+/// Bytes as text.
+pub fn show_bytes(rt: &impl Print, bytes: &[u8]) -> io::Result<()> {
+    let text = from_utf8(bytes).unwrap_or("?");
+    print!(rt; "{text}")
+}
+
+fn join_word(kind: JoinKind) -> &'static str {
+    match kind {
+        JoinKind::Inner => "Inner",
+        JoinKind::Left => "Left",
+        JoinKind::Right => "Right",
+        JoinKind::Full => "Full",
+        JoinKind::LeftSemi => "LeftSemi",
+        JoinKind::LeftAnti => "LeftAnti",
+        JoinKind::RightSemi => "RightSemi",
+        JoinKind::RightAnti => "RightAnti",
+    }
+}
+
+fn direction_words(direction: Direction) -> &'static str {
+    match direction {
+        Direction::AscendingNullsFirst => "ASC NULLS FIRST",
+        Direction::AscendingNullsLast => "ASC NULLS LAST",
+        Direction::DescendingNullsFirst => "DESC NULLS FIRST",
+        Direction::DescendingNullsLast => "DESC NULLS LAST",
+    }
+}
 
 /// Prints what stands in a book.
 #[derive(Drop)]
@@ -15,10 +44,7 @@ struct Printer<'a, P> {
 impl<P: Print> Printer<'_, P> {
     fn show_word(&self, span: Span) -> io::Result<()> {
         match self.book.word(span) {
-            Ok(bytes) => {
-                let text = from_utf8(bytes).unwrap_or("?");
-                print!(self.rt; "{text}")
-            }
+            Ok(bytes) => show_bytes(self.rt, bytes),
             Err(_) => print!(self.rt; "?"),
         }
     }
@@ -95,6 +121,21 @@ impl<P: Print> Printer<'_, P> {
         Ok(())
     }
 
+    /// The keys of a Sort, each with its direction as SQL writes it.
+    fn show_keys(&self, run: Run) -> io::Result<()> {
+        let entries = (0..run.count).filter_map(|i| self.book.entry(run, i).ok());
+        for (i, entry) in entries.enumerate() {
+            if i > 0 {
+                print!(self.rt; ", ")?;
+            }
+            if let Entry::Key(by, direction) = entry {
+                self.show_expr(by, 256)?;
+                print!(self.rt; " {}", direction_words(direction))?;
+            }
+        }
+        Ok(())
+    }
+
     fn show_aggregate(&self, groups: Run, totals: Run) -> io::Result<()> {
         print!(self.rt; "Aggregate: groupBy=[")?;
         self.show_list(groups, 256)?;
@@ -120,14 +161,14 @@ impl<P: Print> Printer<'_, P> {
             }
             PlanNode::Sort { keys, .. } => {
                 print!(self.rt; "Sort: ")?;
-                self.show_list(keys, 256)
+                self.show_keys(keys)
             }
             PlanNode::Limit { skip, count, .. } => {
                 print!(self.rt; "Limit: skip={skip}, fetch={count}")
             }
             PlanNode::Aggregate { groups, totals, .. } => self.show_aggregate(groups, totals),
-            PlanNode::Join { on, .. } => {
-                print!(self.rt; "Join: ")?;
+            PlanNode::Join { kind, on, .. } => {
+                print!(self.rt; "{} Join: ", join_word(kind))?;
                 self.show_list(on, 256)
             }
             PlanNode::SubqueryAlias { name, .. } => {
@@ -148,15 +189,20 @@ impl<P: Print> Printer<'_, P> {
         Ok(())
     }
 
+    fn show_columns(&self, p: PlanId) -> io::Result<()> {
+        match self.book.node_fields(p) {
+            Ok(fields) => self.show_fields(fields),
+            Err(_) => print!(self.rt; "?"),
+        }
+    }
+
     fn show_node(&self, p: PlanId, record: PlanRecord, levels: u32) -> io::Result<()> {
         for _ in levels..64 {
             print!(self.rt; "  ")?;
         }
         self.show_kind(record.node)?;
         print!(self.rt; "  [fields: ")?;
-        if let Ok(fields) = self.book.node_fields(p) {
-            self.show_fields(fields)?;
-        }
+        self.show_columns(p)?;
         println!(self.rt; "; node {}, origin {}]", p.0, record.origin.0)
     }
 
@@ -197,4 +243,14 @@ impl<P: Print> Printer<'_, P> {
 /// Prints a plan; a tree has at most 64 nodes, so no more levels.
 pub fn explain(rt: &impl Print, book: &OpenBook, p: PlanId) -> io::Result<()> {
     Printer { rt, book }.show_plan(p, 64)
+}
+
+/// Prints an expression; a tree has at most 256 nodes, so no more levels.
+pub fn show_expression(rt: &impl Print, book: &OpenBook, e: ExprId) -> io::Result<()> {
+    Printer { rt, book }.show_expr(e, 256)
+}
+
+/// Prints the fields of a node.
+pub fn show_columns(rt: &impl Print, book: &OpenBook, p: PlanId) -> io::Result<()> {
+    Printer { rt, book }.show_columns(p)
 }

@@ -1,15 +1,27 @@
-//! Builds a broadcaster's report in a book, and prints each call with its answer, the plan, and three refusals.
+//! Builds a broadcaster's report in a book, and prints each call with its answer, the plan, three refusals, the report with
+//! its bookings, versions of it by swaps and by a list of calls, a helper column, and what comes of the rows of a small log.
 #![tactic(auto)]
 
 use book::declaration::Book;
 use book::opened::OpenBook;
+use bookings::{booked, latest_first};
 use explain::explain;
+use helper::{HELPER, helped_spots, kind_of};
+use listing::perform_list;
+use log_rows::{make_own, show_rows};
 use std::io;
 use telling::{declared, made, told};
 use terms::node::{ExprId, PlanId};
+use versions::{compared, traced, version};
 
+mod bookings;
 mod explain;
+mod helper;
+mod listing;
+mod log_rows;
 mod telling;
+mod valuing;
+mod versions;
 
 const EQUAL: u8 = 0;
 
@@ -32,8 +44,8 @@ fn declare(rt: &impl Print, book: &mut Book) -> io::Result<()> {
     )?;
     declared(
         rt,
-        "4 missing, 1 argument, rule 0, not strict",
-        book.declare(MISSING, b"missing", 1, 0, false),
+        "4 missing, 1 argument, rule 2, not strict",
+        book.declare(MISSING, b"missing", 1, 2, false),
     )?;
     declared(
         rt,
@@ -102,6 +114,54 @@ fn refusals(rt: &impl Print, book: &mut OpenBook, rows: PlanId) -> anyhow::Resul
     Ok(())
 }
 
+/// The report with its bookings, and the sort of that, built and printed.
+fn show_bookings(
+    rt: &impl Print,
+    book: &mut OpenBook,
+    report: PlanId,
+) -> anyhow::Result<(PlanId, PlanId)> {
+    let joined = booked(rt, book, report)?;
+    let sorted = latest_first(rt, book, joined)?;
+    println!(rt; "")?;
+    explain(rt, book, sorted)?;
+    Ok((joined, sorted))
+}
+
+/// A version of the report, built and printed, and what the book says of nodes.
+fn show_version(
+    rt: &impl Print,
+    book: &mut OpenBook,
+    report: PlanId,
+    later: PlanId,
+    rows: PlanId,
+) -> anyhow::Result<PlanId> {
+    let version = version(rt, book, report, later, rows)?;
+    println!(rt; "")?;
+    explain(rt, book, version)?;
+    println!(rt; "")?;
+    compared(rt, book, report, version)?;
+    compared(rt, book, report, later)?;
+    traced(rt, book, version, "start")?;
+    traced(rt, book, version, "event")?;
+    Ok(version)
+}
+
+/// Spots by a helper column, built, printed and traced; the expression of the kind.
+fn show_helper(rt: &impl Print, book: &mut OpenBook, rows: PlanId) -> anyhow::Result<ExprId> {
+    let event = made(
+        rt,
+        "reference log.event",
+        book.reference(b"event", Some(b"log")),
+    )?;
+    let kind = kind_of(rt, book, event)?;
+    let helped = helped_spots(rt, book, rows, event, kind)?;
+    println!(rt; "")?;
+    explain(rt, book, helped)?;
+    println!(rt; "")?;
+    traced(rt, book, helped, HELPER)?;
+    Ok(kind)
+}
+
 fn main(rt: HostRuntime) -> anyhow::Result<()> {
     let mut book = Book::new();
     declare(&rt, &mut book)?;
@@ -113,5 +173,17 @@ fn main(rt: HostRuntime) -> anyhow::Result<()> {
     println!(rt; "")?;
     explain(&rt, &open, report)?;
     println!(rt; "")?;
-    refusals(&rt, &mut open, report)
+    refusals(&rt, &mut open, report)?;
+    println!(rt; "")?;
+    let (joined, sorted) = show_bookings(&rt, &mut open, report)?;
+    println!(rt; "")?;
+    let version = show_version(&rt, &mut open, report, later, rows)?;
+    println!(rt; "")?;
+    perform_list(&rt, &mut open, joined, sorted, version)?;
+    println!(rt; "")?;
+    let kind = show_helper(&rt, &mut open, rows)?;
+    println!(rt; "")?;
+    let own = make_own(&rt, &mut open, kind)?;
+    println!(rt; "")?;
+    show_rows(&rt, &open, report, own)
 }

@@ -29,7 +29,16 @@ impl Numbered for PlanId {
     }
 }
 
-fn refused(rt: &impl Print, f: Fault) -> io::Result<()> {
+/// A list of calls is answered numbers only, of expressions and of nodes.
+impl Numbered for u32 {
+    const WORD: &'static str = "made number";
+
+    fn number(self) -> u32 {
+        self
+    }
+}
+
+pub fn refused(rt: &impl Print, f: Fault) -> io::Result<()> {
     println!(rt; "refused: {f}")
 }
 
