@@ -193,6 +193,14 @@ joins_hold =
     ∷ gives (with_empty LeftAnti) rows_of_l
     ∷ gives (with_empty RightSemi) []
     ∷ gives (with_empty RightAnti) []
+    ∷ gives (from_empty Inner) []
+    ∷ gives (from_empty Left) []
+    ∷ gives (from_empty Right) ((null ∷ n 2 ∷ []) ∷ (null ∷ n 3 ∷ []) ∷ [])
+    ∷ gives (from_empty Full) ((null ∷ n 2 ∷ []) ∷ (null ∷ n 3 ∷ []) ∷ [])
+    ∷ gives (from_empty LeftSemi) []
+    ∷ gives (from_empty LeftAnti) []
+    ∷ gives (from_empty RightSemi) []
+    ∷ gives (from_empty RightAnti) ((n 2 ∷ []) ∷ (n 3 ∷ []) ∷ [])
     ∷ gives (never_true Inner) []
     ∷ gives (never_true Left) ((n 1 ∷ null ∷ []) ∷ [])
     ∷ gives (never_true Right) ((null ∷ n 3 ∷ []) ∷ [])

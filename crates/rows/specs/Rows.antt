@@ -77,14 +77,15 @@ fit n row = take n (row ++ nulls n)
 unfoldable pub pairs : (Row → Row → Bool) → List Row → List Row → List Row
 pairs m ls rs = each (λ l. map (λ r. l ++ r) (keep (m l) rs)) ls
 
--- and an unmatched left row once, at its place, with nulls for the b columns at the right
+-- and an unmatched left row once, with nulls for the b columns at the right; SQL leaves its place open: where its pairs would be
 unfoldable pub pairs_padded : (Row → Row → Bool) → ℕ → List Row → List Row → List Row
 pairs_padded m b ls rs = each (λ l. or_else (map (λ r. l ++ r) (keep (m l) rs)) (l ++ nulls b)) ls
 
--- the unmatched right rows, with nulls for the a columns at the left; they stand last
+-- the unmatched right rows, with nulls for the a columns at the left; SQL leaves their place open: last, in their own order
 unfoldable pub lone : (Row → Row → Bool) → ℕ → List Row → List Row → List Row
 lone m a ls rs = map (λ r. nulls a ++ r) (keep (λ r. not (any (λ l. m l r) ls)) rs)
 
+-- SQL's outer joins; a semi or anti join is what SQL says by EXISTS or NOT EXISTS, with the rows of its side in their own order
 unfoldable pub joined : JoinKind → (Row → Row → Bool) → ℕ → ℕ → List Row → List Row → List Row
 joined Inner m a b ls rs = pairs m ls rs
 joined Left m a b ls rs = pairs_padded m b ls rs
@@ -126,6 +127,7 @@ unfoldable mutual
   rows_of fs w (sort ks i) =
       gather (w.arrange (map (λ k. k.direction) ks) (map (key_values w (fields_of fs i) ks) (rows_of fs w i))) (rows_of fs w i)
   rows_of fs w (limit s c i) = take c (drop s (rows_of fs w i))
+  -- SQL gives a row for each group and leaves their order open: as the grouping rule has it
   rows_of fs w (aggregate gs ts i) =
       map (fit (length (gs ++ ts))) (w.group (map total_number ts) (map (keyed w (fields_of fs i) gs ts) (rows_of fs w i)))
   rows_of fs w (join k cs l r) =
