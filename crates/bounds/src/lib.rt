@@ -19,3 +19,5 @@ mod placed;
 mod present;
 #[cfg(test)]
 mod space;
+#[cfg(test)]
+mod swapped;
