@@ -7,3 +7,4 @@ pub mod Bounds
 pub mod Grown
 pub mod Calling
 pub mod Arguments
+pub mod Begun

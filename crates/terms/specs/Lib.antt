@@ -6,3 +6,4 @@ pub mod Lexicon
 pub mod Views
 pub mod Building
 pub mod Declaring
+pub mod Begun

@@ -3,5 +3,6 @@
 
 pub mod lexicon;
 pub mod listed;
+pub mod marks;
 pub mod node;
 pub mod terms;

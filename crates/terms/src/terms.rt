@@ -13,6 +13,7 @@ use table::table::Table;
 mod adding;
 mod building;
 mod calling;
+mod marking;
 mod reading;
 mod rendering;
 mod resolving;

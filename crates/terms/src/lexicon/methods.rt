@@ -1,6 +1,7 @@
 //! How text is written and read, and how functions are found.
 ghost use Rattle.std.specs.Prelude.{◌≡◌, ◌+◌, ◌<◌, ◌≤◌, true, [], ◌++◌, length, replicate, None};
 ghost use Rattle.plan.specs.Functions.{function_at};
+ghost use Rattle.terms.specs.Begun.{LexiconBegins, SameLexicon};
 ghost use Rattle.terms.specs.Lexicon.{functions_of, text_of};
 ghost use Rattle.terms.specs.Spans.{declaration_in, function_in};
 ghost use Rattle.names.specs.Spans.{span_in, word};
@@ -28,6 +29,7 @@ impl Lexicon {
         ensures text { text_of self.new ≡ text_of self.old ++ bytes.now }
         ensures inside { span_in (text_of self.new) result ≡ true }
         ensures word { word (text_of self.new) result ≡ bytes.now }
+        ensures begins { LexiconBegins self.old self.new }
     {
         let start = self.text.len() as u32;
         self.text.extend(bytes);
@@ -35,6 +37,14 @@ impl Lexicon {
             start,
             len: bytes.len() as u32,
         }
+    }
+
+    /// Forgets all text but the first `len` bytes.
+    pub(crate) fn back_to(&mut self, len: usize)
+        requires { (x : Lexicon) × (len ≡ length (text_of x)) × LexiconBegins x self.old }
+        ensures { (x : Lexicon) → len ≡ length (text_of x) → LexiconBegins x self.old → SameLexicon x self.new }
+    {
+        self.text.truncate(len);
     }
 
     /// How many bytes more there is room for.

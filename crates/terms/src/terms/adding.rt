@@ -2,6 +2,7 @@
 ghost use Rattle.std.specs.Prelude.{◌≡◌, ◌+◌, ◌<◌, ◌≤◌, true, [], ◌∷◌, ◌++◌, map, length};
 ghost use Rattle.plan.specs.Terms.{size_of};
 ghost use Rattle.terms.specs.Acceptance.{acceptable};
+ghost use Rattle.terms.specs.Begun.{TermsBegin};
 ghost use Rattle.terms.specs.Build.{inside_node, width_of};
 ghost use Rattle.terms.specs.Lexicon.{functions_of, text_of};
 ghost use Rattle.names.specs.Spans.{span_in, word};
@@ -40,6 +41,7 @@ impl Terms {
         ensures view { view_of self.new ≡ grown (view_of self.old) [] bytes.now [] }
         ensures inside { span_in (view_of self.new).bytes result ≡ true }
         ensures word { word (view_of self.new).bytes result ≡ bytes.now }
+        ensures begins { TermsBegin self.old self.new }
     {
         self.lexicon.write(bytes)
     }
@@ -50,6 +52,7 @@ impl Terms {
         ensures view { view_of self.new ≡ grown (view_of self.old) [] [] (map T.entry items.now) }
         ensures first { result.first ≡ length (view_of self.old).entries }
         ensures count { result.count ≡ length items.now }
+        ensures begins { TermsBegin self.old self.new }
     {
         let first = self.entries.len() as u32;
         self.entries.push_each(items, T::entry);
@@ -68,6 +71,7 @@ impl Terms {
         requires width { width ≡ width_of (view_of self.old).functions (tree_for self.old node) }
         ensures view { view_of self.new ≡ grown (view_of self.old) (tree_for self.old node ∷ []) [] [] }
         ensures number { result.0 ≡ count self.old }
+        ensures begins { TermsBegin self.old self.new }
     {
         let n = self.exprs.len() as u32;
         self.exprs.push(ExprRecord { node, size, width });

@@ -7,6 +7,7 @@ ghost use Rattle.plan.specs.Faults.{Decided};
 ghost use Rattle.plan.specs.Model.{space};
 ghost use Rattle.plan.specs.Terms.Literal.{null as null_literal, real as real_literal, text as text_literal, truth as truth_literal, whole as whole_literal};
 ghost use Rattle.plan.specs.declared.fault.Question.TheVariants.{Space as SpaceQuestion};
+ghost use Rattle.terms.specs.Begun.{TermsBegin};
 ghost use Rattle.terms.specs.Building.{Answered, given_field, given_qualifier, qualifier_text, roomy};
 ghost use Rattle.plan.specs.Rendering.{dotted, rendered_literal};
 ghost use Rattle.terms.specs.Spans.{literal_at, plain_literal, stored_field, stored_in};
@@ -95,6 +96,7 @@ impl Terms {
         ensures view { view_of self.new ≡ grown (view_of self.old) [] (field.entry.name.now ++ qualifier_text (given_qualifier field.entry.qualifier)) [] }
         ensures inside { stored_in (view_of self.new).bytes result ≡ true }
         ensures field { stored_field (view_of self.new).bytes result ≡ given_field field.entry.name.now field.entry.qualifier }
+        ensures begins { TermsBegin self.old self.new }
     {
         let name = self.write(field.name);
         // With `map` nothing is known of what the closure wrote, and the three clauses stay open.
@@ -109,7 +111,8 @@ impl Terms {
     fn constant(&mut self, l: Literal, width: u32) -> Result<ExprId, Fault>
         requires plain { plain_literal l ≡ true }
         requires width { width ≡ length (rendered_literal (literal_at [] l)) }
-        ensures { Answered (view_of self.old) (make_literal (literal_at [] l)) result (view_of self.new) }
+        ensures answer { Answered (view_of self.old) (make_literal (literal_at [] l)) result (view_of self.new) }
+        ensures begins { TermsBegin self.old self.new }
     {
         self.ask_room(0, 0)?;
         Ok(self.add(ExprNode::Constant(l), 1, width))
@@ -117,35 +120,40 @@ impl Terms {
 
     /// The null literal.
     pub fn null(&mut self) -> Result<ExprId, Fault>
-        ensures { Answered (view_of self.old) (make_literal null_literal) result (view_of self.new) }
+        ensures answer { Answered (view_of self.old) (make_literal null_literal) result (view_of self.new) }
+        ensures begins { TermsBegin self.old self.new }
     {
         self.constant(Literal::Null, 4)
     }
 
     /// A truth literal.
     pub fn truth(&mut self, b: bool) -> Result<ExprId, Fault>
-        ensures { Answered (view_of self.old) (make_literal (truth_literal b)) result (view_of self.new) }
+        ensures answer { Answered (view_of self.old) (make_literal (truth_literal b)) result (view_of self.new) }
+        ensures begins { TermsBegin self.old self.new }
     {
         self.constant(Literal::Truth(b), if b { 4 } else { 5 })
     }
 
     /// A whole number.
     pub fn whole(&mut self, n: i64) -> Result<ExprId, Fault>
-        ensures { Answered (view_of self.old) (make_literal (whole_literal n)) result (view_of self.new) }
+        ensures answer { Answered (view_of self.old) (make_literal (whole_literal n)) result (view_of self.new) }
+        ensures begins { TermsBegin self.old self.new }
     {
         self.constant(Literal::Whole(n), signed_len(n) as u32)
     }
 
     /// A real.
     pub fn real(&mut self, x: f64) -> Result<ExprId, Fault>
-        ensures { Answered (view_of self.old) (make_literal (real_literal x)) result (view_of self.new) }
+        ensures answer { Answered (view_of self.old) (make_literal (real_literal x)) result (view_of self.new) }
+        ensures begins { TermsBegin self.old self.new }
     {
         self.constant(Literal::Real(x), 16)
     }
 
     /// A text literal.
     pub fn text(&mut self, bytes: &[u8]) -> Result<ExprId, Fault>
-        ensures { Answered (view_of self.old) (make_literal (text_literal bytes.now)) result (view_of self.new) }
+        ensures answer { Answered (view_of self.old) (make_literal (text_literal bytes.now)) result (view_of self.new) }
+        ensures begins { TermsBegin self.old self.new }
     {
         ask(good_name(bytes), Question::Named)?;
         self.ask_room(0, bytes.len())?;
@@ -161,7 +169,8 @@ impl Terms {
 impl Terms {
     /// A reference to a column.
     pub fn reference(&mut self, name: &[u8], qualifier: Option<&[u8]>) -> Result<ExprId, Fault>
-        ensures { Answered (view_of self.old) (make_reference (given_field name.now qualifier.entry)) result (view_of self.new) }
+        ensures answer { Answered (view_of self.old) (make_reference (given_field name.now qualifier.entry)) result (view_of self.new) }
+        ensures begins { TermsBegin self.old self.new }
     {
         let given = GivenField { name, qualifier };
         ask(given.is_good(), Question::Named)?;
@@ -177,7 +186,8 @@ impl Terms {
         name: &[u8],
         qualifier: Option<&[u8]>,
     ) -> Result<ExprId, Fault>
-        ensures { Answered (view_of self.old) (make_alias inner.0 (given_field name.now qualifier.entry)) result (view_of self.new) }
+        ensures answer { Answered (view_of self.old) (make_alias inner.0 (given_field name.now qualifier.entry)) result (view_of self.new) }
+        ensures begins { TermsBegin self.old self.new }
     {
         ask(self.has(inner), Question::Present)?;
         let given = GivenField { name, qualifier };

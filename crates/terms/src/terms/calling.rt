@@ -11,6 +11,7 @@ ghost use Rattle.plan.specs.Rendering.{rendered_rest};
 ghost use Rattle.plan.specs.Terms.Expr.{call as call_tree};
 ghost use Rattle.terms.specs.Build.{width_of};
 ghost use Rattle.plan.specs.Terms.{sizes_of};
+ghost use Rattle.terms.specs.Begun.{TermsBegin};
 ghost use Rattle.terms.specs.Building.{Answered, roomy};
 ghost use Rattle.terms.specs.Views.{AllPresent, arguments_of, count, numbers_of, view_of};
 
@@ -106,7 +107,8 @@ impl Terms {
 
     /// A call of a declared function.
     pub fn call(&mut self, function: u8, arguments: &[ExprId]) -> Result<ExprId, Fault>
-        ensures { Answered (view_of self.old) (make_call function (numbers_of arguments.now)) result (view_of self.new) }
+        ensures answer { Answered (view_of self.old) (make_call function (numbers_of arguments.now)) result (view_of self.new) }
+        ensures begins { TermsBegin self.old self.new }
     {
         ask(self.can_call(function, arguments), Question::Present)?;
         ask(self.takes(function, arguments), Question::Bounded)?;

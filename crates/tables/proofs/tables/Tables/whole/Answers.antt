@@ -14,8 +14,8 @@ said : (v w : View) (r : Result ExprId Fault) (n m : ℤ) → m ≡ n → Answer
 said v w r n m e a = subst (λ x. Answered v (make_literal (whole_literal x)) r w) e a
 
 pub invariant_of-self : goal.invariant_of-self
-invariant_of-self c = still-held c.args.self.now (view_of c.whole.new.self) (make_literal (whole_literal c.args.n)) c.whole.result (said (view_in c.args.self.now) (view_of c.whole.new.self) c.whole.result c.args.n _ (to_z-of_z w64 c.args.n c.ranges.n) c.whole.ensures)
+invariant_of-self c = still-held c.args.self.now (view_of c.whole.new.self) (make_literal (whole_literal c.args.n)) c.whole.result (said (view_in c.args.self.now) (view_of c.whole.new.self) c.whole.result c.args.n _ (to_z-of_z w64 c.args.n c.ranges.n) c.whole.ensures.answer)
 
 pub returns : goal.returns
 returns c =
-    literal-answers c.args.self.now (view_of c.whole.new.self) (whole_literal c.args.n) c.whole.result (said (view_in c.args.self.now) (view_of c.whole.new.self) c.whole.result c.args.n _ (to_z-of_z w64 c.args.n c.ranges.n) c.whole.ensures)
+    literal-answers c.args.self.now (view_of c.whole.new.self) (whole_literal c.args.n) c.whole.result (said (view_in c.args.self.now) (view_of c.whole.new.self) c.whole.result c.args.n _ (to_z-of_z w64 c.args.n c.ranges.n) c.whole.ensures.answer)

@@ -45,8 +45,8 @@ add-requires c =
       width = c.call_width-width.ensures ∙ sym (ap₂ width_of (same-functions v w _ _ e) t);
     }
 
-pub returns : goal.returns
-returns c =
+pub returns-clause-answer : goal.returns-clause-answer
+returns-clause-answer c =
     let v = view_of c.args.self.now in
     let w = view_of c.list.new.self in
     let ids = c.args.arguments.now in

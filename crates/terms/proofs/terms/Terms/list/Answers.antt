@@ -3,6 +3,7 @@ use Rattle.std.proofs.lemmas.List.{append-nil}
 use Rattle.table.proofs.Pushes.{pushed-map}
 use Rattle.terms.specs.Lexicon.{functions_of, text_of}
 use Rattle.terms.specs.Views.{view_of}
+use Rattle.terms.proofs.Begun.{at-once}
 use Rattle.terms.proofs.Facts.{facts-of, facts-grown, same_view}
 use Rattle.terms.proofs.Trees.{trees-grown}
 use Rattle.terms.proofs.terms.Terms.list.Goals as goal
@@ -24,3 +25,9 @@ returns-clause-view g c =
     let n = map g.T.Listed.entry c.args.items.now in
     let k = trees-grown bs [] bs es n _ t.exprs (sym (append-nil bs)) grew t.sound in
     same_view (view_of t) (functions_of t.lexicon) (view_of t).trees [] bs [] es n _ _ _ _ refl refl (k.1 ∙ sym (append-nil (view_of t).trees)) (sym (append-nil bs)) grew
+
+pub returns-clause-begins : goal.returns-clause-begins
+returns-clause-begins g c =
+    let t = c.args.self.now in
+    let grew = pushed-map _ g.T.Listed.entry (λ x d made. search rules) c.args.items.now _ _ c.push_each.ensures in
+    record { lexicon = record { functions = refl; text = at-once t.lexicon.text }; exprs = at-once t.exprs; entries = record { more = map g.T.Listed.entry c.args.items.now; is = grew } }

@@ -1,0 +1,38 @@
+-- What it is to begin with other tables, and to be put back to them; cited by src/lexicon/methods.rt and src/terms.
+--     Begins xs ys      the list ys begins with xs
+--     LexiconBegins x y, TermsBegin s t      y, t is x, s and what was put behind it, place for place; the functions are the same
+--     SameLexicon x y, SameTerms s t      the same and nothing behind
+--     Begun s m t      m has the counts of s, and t begins with s
+use Rattle.std.specs.Prelude.{◌≡◌, List, ◌++◌, length}
+use Rattle.terms.specs.Lexicon.{text_of}
+use Rattle.terms.specs.declared.lexicon.Lexicon.{Lexicon}
+use Rattle.terms.specs.declared.marks.Marks.{Marks}
+use Rattle.terms.specs.declared.terms.Terms.{Terms}
+
+pub record Begins {X : Type 0} (xs ys : List X) : Type 0 where
+  pub more : List X
+  pub is : ys ≡ xs ++ more
+
+pub record LexiconBegins (x y : Lexicon) : Type 0 where
+  pub functions : y.functions ≡ x.functions
+  pub text : Begins (text_of x) (text_of y)
+
+pub record SameLexicon (x y : Lexicon) : Type 0 where
+  pub functions : y.functions ≡ x.functions
+  pub text : text_of y ≡ text_of x
+
+pub record TermsBegin (s t : Terms) : Type 0 where
+  pub lexicon : LexiconBegins s.lexicon t.lexicon
+  pub exprs : Begins s.exprs t.exprs
+  pub entries : Begins s.entries t.entries
+
+pub record SameTerms (s t : Terms) : Type 0 where
+  pub lexicon : SameLexicon s.lexicon t.lexicon
+  pub exprs : t.exprs ≡ s.exprs
+  pub entries : t.entries ≡ s.entries
+
+pub record Begun (s : Terms) (m : Marks) (t : Terms) : Type 0 where
+  pub exprs : m.exprs ≡ length s.exprs
+  pub entries : m.entries ≡ length s.entries
+  pub bytes : m.bytes ≡ length (text_of s.lexicon)
+  pub begins : TermsBegin s t
