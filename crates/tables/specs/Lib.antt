@@ -11,3 +11,4 @@ pub mod Looking
 pub mod Keys
 pub mod Remaking
 pub mod Tracing
+pub mod Begun

@@ -3,6 +3,7 @@
 
 mod copying;
 mod keys;
+pub mod marks;
 pub mod node;
 pub mod placing;
 pub mod tables;

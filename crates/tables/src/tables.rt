@@ -13,12 +13,14 @@ use terms::terms::Terms;
 
 mod asked;
 mod asking;
+pub mod attempting;
 mod drafting;
 mod expressions;
 mod inputs;
 mod lawful;
 mod looking;
 mod making;
+mod marking;
 mod measuring;
 mod opening;
 mod reading;
