@@ -14,3 +14,4 @@ pub mod Remaking
 pub mod Origins
 pub mod Swaps
 pub mod Traces
+pub mod Begun

@@ -26,6 +26,8 @@ mod opening;
 mod reading;
 mod remaking;
 mod swapping;
+#[cfg(test)]
+mod tests;
 mod tracing;
 
 #[derive(Drop)]

@@ -1,6 +1,7 @@
 -- What it is to begin with other tables, and to be put back to them; cited by src/lexicon/methods.rt and src/terms.
 --     Begins xs ys      the list ys begins with xs
 --     LexiconBegins x y, TermsBegin s t      y, t is x, s and what was put behind it, place for place; the functions are the same
+--         (places and not trees: another record of the same tree could name text that is put back)
 --     SameLexicon x y, SameTerms s t      the same and nothing behind
 --     Begun s m t      m has the counts of s, and t begins with s
 use Rattle.std.specs.Prelude.{◌≡◌, List, ◌++◌, length}
