@@ -1,7 +1,6 @@
 //! What the book promises of its nodes.
-ghost use Rattle.std.specs.Prelude.{◌≡◌, ◌<◌, true, Ok, ◌==◌};
+ghost use Rattle.std.specs.Prelude.{◌≡◌, true, Ok};
 ghost use Rattle.book.specs.Opened.{SameReport, Told, book_of};
-ghost use Rattle.plan.specs.Model.{count_of, origin_at};
 ghost use Rattle.rewriting.specs.Book.{Law};
 
 use super::OpenBook;
@@ -9,20 +8,12 @@ use plan::fault::{Fault, Question, ask};
 use terms::node::PlanId;
 
 impl OpenBook {
-    fn have_one_origin(&self, a: PlanId, b: PlanId) -> bool
-        requires first { a.0 < count_of (book_of self.now) }
-        requires second { b.0 < count_of (book_of self.now) }
-        ensures { result ≡ (origin_at (book_of self.now) a.0 == origin_at (book_of self.now) b.0) }
-    {
-        self.tables.origin_of(a) == self.tables.origin_of(b)
-    }
-
     fn ask_origin(&self, a: PlanId, b: PlanId) -> Result<bool, Fault>
         ensures { Told (book_of self.now) a.0 b.0 result }
     {
         ask(self.tables.has(a), Question::Present)?;
         ask(self.tables.has(b), Question::Present)?;
-        Ok(self.have_one_origin(a, b))
+        Ok(self.tables.same_origin(a, b))
     }
 
     /// Whether two nodes have one origin. If so, they give the same report: the same fields, and the same rows in the same

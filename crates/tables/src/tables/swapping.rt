@@ -37,12 +37,12 @@ impl Tables {
     }
 
     /// Whether two nodes have one origin.
-    fn same_origin(&self, a: PlanId, b: PlanId) -> bool
+    pub fn same_origin(&self, a: PlanId, b: PlanId) -> bool
         requires first { a.0 < plan_count self.now }
         requires second { b.0 < plan_count self.now }
         ensures { result ≡ (origin_at (model_of self.now) a.0 == origin_at (model_of self.now) b.0) }
     {
-        self.record_of(a).origin == self.record_of(b).origin
+        self.origin_of(a) == self.origin_of(b)
     }
 
     /// Gives a node the origin of an older one, or its own.
