@@ -1,7 +1,7 @@
 -- Plans worked through: what extract and push make of them, written out.
 --     same_plan      equality of plans, as a test
 --     worked_plans_hold      all of them at once
-use Rattle.std.specs.Prelude.{ℕ, suc, ◌+◌, Bool, true, false, ◌&&◌, List, [], ◌∷◌, ◌++◌, map, pos, Some, codes, Option, ◌==◌, from_bits}
+use Rattle.std.specs.Prelude.{ℕ, zero, suc, ◌+◌, Bool, true, false, ◌&&◌, List, [], ◌∷◌, ◌++◌, map, pos, Some, codes, Option, ◌==◌, from_bits}
 use Rattle.std.specs.Float.{binary64}
 use Rattle.std.specs.Str.{bytes_eq}
 use Rattle.plan.specs.Names.{Name, prefix}
@@ -23,7 +23,7 @@ use Rattle.plan.specs.declared.code.Direction.TheVariants.{AscendingNullsFirst, 
 use Rattle.plan.specs.declared.code.Rule.{Rule}
 use Rattle.plan.specs.declared.code.Rule.TheVariants.{Stay, FirstColumn, AnyColumn, Total}
 use Rattle.plan.specs.declared.fault.Question.TheVariants.{Resolved, Lawful, Limited}
-use Rattle.plan.specs.declared.fault.Stage.TheVariants.{Extraction, Rebuilt}
+use Rattle.plan.specs.declared.fault.Stage.TheVariants.{Extraction, Merge, Rebuilt, Recovery, Closing}
 use Rattle.plan.specs.Values.{is_null_value}
 use Rattle.plan.specs.Values.Value.{whole as whole_value}
 use Rattle.engine.specs.Arithmetic.{alike, arithmetic}
@@ -426,6 +426,57 @@ untried =
     push_after (projection (alias E X ∷ []) (aggregate (alias E₂ X ∷ reference event ∷ []) [] log)) (no_change (start_at (suc first)))
     && push_after (projection (alias (two 2 (reference start) (number 1)) (named (codes "s")) ∷ alias E X ∷ []) (projection (alias E₂ X ∷ reference event ∷ reference start ∷ []) log)) (no_change (start_at (suc first)))
 
+-- a key with one E: a helper column below, and a recovery above
+unfoldable pub sorted : Bool
+sorted =
+    extract_gives (sort (record { by = E; direction = AscendingNullsLast } ∷ []) log)
+    (built (projection (reference event ∷ reference start ∷ []) (sort (record { by = reference X; direction = AscendingNullsLast } ∷ []) with_e)) (start_at (suc first)))
+
+abbrev pub as_p : Field
+as_p = named (codes "p")
+
+abbrev pub as_q : Field
+as_q = named (codes "q")
+
+-- merged into a Projection; q stays in the predicate, and so the column behind it is passed through as well
+unfoldable pub plain_needed : Bool
+plain_needed =
+    extract_gives (filter (two 1 (kind_of as_p) (reference as_q)) (projection (alias (reference event) as_p ∷ alias (reference start) as_q ∷ []) log))
+    (built (projection (reference as_p ∷ reference as_q ∷ []) (filter (two 1 (reference X) (reference as_q))
+    (projection (alias (reference event) as_p ∷ alias (reference start) as_q ∷ alias E X ∷ reference event ∷ reference start ∷ []) log))) (start_at (suc first)))
+
+-- down a Sort
+unfoldable pub under_sort : Bool
+under_sort =
+    push_after (projection (reference event ∷ alias E X ∷ []) (sort (record { by = reference start; direction = DescendingNullsLast } ∷ []) log))
+    (built (projection (reference event ∷ reference X ∷ []) (sort (record { by = reference start; direction = DescendingNullsLast } ∷ []) with_e)) (start_at (suc first)))
+
+-- from a semi join's condition to both sides, though the right one does not show
+unfoldable pub semi : Bool
+semi =
+    extract_gives (join LeftSemi (two 1 E (kind_of clip_event) ∷ []) log clip)
+    (built (projection (reference event ∷ reference start ∷ [])
+    (join LeftSemi (two 1 (reference X) (reference Y) ∷ []) with_e (projection (alias (kind_of clip_event) Y ∷ reference clip_event ∷ []) clip))) (start_at (2 + first)))
+
+abbrev pub named_x : Plan
+named_x = projection (alias (two 0 (reference event) (literal (text (codes "name")))) X ∷ reference event ∷ []) log
+
+-- X stands for something else in the Projection that it would be merged into: 7, stage 3, at level 0 and at level 1
+unfoldable pub other_alias : Bool
+other_alias =
+    push_after (projection (alias E X ∷ []) named_x) (refused (fault Lawful Merge 0) (start_at first))
+    && push_after (projection (alias E X ∷ []) (projection (reference event ∷ []) (limit 0 9 named_x))) (refused (fault Lawful Merge 1) (start_at first))
+
+unfoldable pub limits : ℕ → Plan → Plan
+limits zero i = i
+limits (suc n) i = limit 0 3 (limits n i)
+
+-- 64 nodes with the Projection; the closing, or the recovery, would be one more
+unfoldable pub too_high : Bool
+too_high =
+    push_after (projection (reference event ∷ reference start ∷ alias E X ∷ []) (limits 62 log)) (refused (fault Limited Closing 0) (start_at first))
+    && push_after (projection (reference event ∷ later ∷ alias E X ∷ []) (limits 62 log)) (refused (fault Limited Recovery 0) (start_at first))
+
 -- equal expressions get one alias; 0.0 and -0.0 are not equal
 abbrev pub zero_of : ℕ → Expr
 zero_of bits = two 0 (reference event) (literal (real (from_bits binary64 bits)))
@@ -479,5 +530,5 @@ plan_eight =
 unfoldable pub worked_plans_hold : Bool
 worked_plans_hold =
     every (λ t. t) (
-    plan_one ∷ plan_two ∷ plan_three ∷ plan_four ∷ plan_five ∷ plan_six ∷ plan_seven ∷ plan_eight ∷ no_number ∷ two_limits ∷ renamed ∷ over_union ∷ both_sides ∷ by_place_total ∷ ambiguous ∷ deeper ∷ taken_name ∷ through_recovery ∷ trial_number ∷ four_for_three ∷ uneven_places ∷ flat_name ∷ by_field ∷ qualifies ∷ same_alias ∷ left_out ∷ untried ∷ twice ∷ under_prefix ∷ numbers ∷ spent ∷ cheap ∷ []
+    plan_one ∷ plan_two ∷ plan_three ∷ plan_four ∷ plan_five ∷ plan_six ∷ plan_seven ∷ plan_eight ∷ no_number ∷ two_limits ∷ renamed ∷ over_union ∷ both_sides ∷ by_place_total ∷ ambiguous ∷ deeper ∷ taken_name ∷ through_recovery ∷ trial_number ∷ four_for_three ∷ uneven_places ∷ flat_name ∷ by_field ∷ qualifies ∷ same_alias ∷ left_out ∷ untried ∷ sorted ∷ plain_needed ∷ under_sort ∷ semi ∷ other_alias ∷ too_high ∷ twice ∷ under_prefix ∷ numbers ∷ spent ∷ cheap ∷ []
     )
