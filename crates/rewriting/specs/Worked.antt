@@ -477,6 +477,19 @@ too_high =
     push_after (projection (reference event ∷ reference start ∷ alias E X ∷ []) (limits 62 log)) (refused (fault Limited Closing 0) (start_at first))
     && push_after (projection (reference event ∷ later ∷ alias E X ∷ []) (limits 62 log)) (refused (fault Limited Recovery 0) (start_at first))
 
+-- by the field it is log.start, which the left side owns alone; there it meets the other X, which the join does not show: 7, stage 4, level 1
+unfoldable pub hidden_alias : Bool
+hidden_alias =
+    push_after (projection (alias (kind_of (named (codes "start"))) X ∷ [])
+    (subquery_alias (codes "q") (join LeftAnti [] log (projection (alias (kind_of clip_event) X ∷ alias (reference clip_event) (column_of (codes "s") (codes "start")) ∷ []) clip))))
+    (refused (fault Lawful Rebuilt 1) (start_at first))
+
+-- it does not go to the padded side, and over the Join the extraction would have X twice: 7, stage 2
+unfoldable pub held_above : Bool
+held_above =
+    push_after (projection (alias missing (named (codes "m")) ∷ alias (reference X) X ∷ []) (join Left [] log (projection (reference clip_event ∷ alias (kind_of clip_event) X ∷ []) clip)))
+    (refused (fault Lawful Extraction 0) (start_at first))
+
 -- equal expressions get one alias; 0.0 and -0.0 are not equal
 abbrev pub zero_of : ℕ → Expr
 zero_of bits = two 0 (reference event) (literal (real (from_bits binary64 bits)))
@@ -530,5 +543,5 @@ plan_eight =
 unfoldable pub worked_plans_hold : Bool
 worked_plans_hold =
     every (λ t. t) (
-    plan_one ∷ plan_two ∷ plan_three ∷ plan_four ∷ plan_five ∷ plan_six ∷ plan_seven ∷ plan_eight ∷ no_number ∷ two_limits ∷ renamed ∷ over_union ∷ both_sides ∷ by_place_total ∷ ambiguous ∷ deeper ∷ taken_name ∷ through_recovery ∷ trial_number ∷ four_for_three ∷ uneven_places ∷ flat_name ∷ by_field ∷ qualifies ∷ same_alias ∷ left_out ∷ untried ∷ sorted ∷ plain_needed ∷ under_sort ∷ semi ∷ other_alias ∷ too_high ∷ twice ∷ under_prefix ∷ numbers ∷ spent ∷ cheap ∷ []
+    plan_one ∷ plan_two ∷ plan_three ∷ plan_four ∷ plan_five ∷ plan_six ∷ plan_seven ∷ plan_eight ∷ no_number ∷ two_limits ∷ renamed ∷ over_union ∷ both_sides ∷ by_place_total ∷ ambiguous ∷ deeper ∷ taken_name ∷ through_recovery ∷ trial_number ∷ four_for_three ∷ uneven_places ∷ flat_name ∷ by_field ∷ qualifies ∷ same_alias ∷ left_out ∷ untried ∷ sorted ∷ plain_needed ∷ under_sort ∷ semi ∷ other_alias ∷ too_high ∷ hidden_alias ∷ held_above ∷ twice ∷ under_prefix ∷ numbers ∷ spent ∷ cheap ∷ []
     )
