@@ -24,10 +24,14 @@ use Rattle.plan.specs.declared.code.Rule.{Rule}
 use Rattle.plan.specs.declared.code.Rule.TheVariants.{Stay, FirstColumn, AnyColumn, Total}
 use Rattle.plan.specs.declared.fault.Question.TheVariants.{Resolved, Lawful, Limited}
 use Rattle.plan.specs.declared.fault.Stage.TheVariants.{Extraction, Merge, Rebuilt, Recovery, Closing}
-use Rattle.plan.specs.Values.{is_null_value}
-use Rattle.plan.specs.Values.Value.{whole as whole_value}
+use Rattle.plan.specs.Values.{Value, is_null_value}
+use Rattle.plan.specs.Values.Value.{null as null_value, whole as whole_value}
 use Rattle.engine.specs.Arithmetic.{alike, arithmetic}
-use Rattle.rows.specs.Standing.{up_from}
+use Rattle.engine.specs.Records.{records}
+use Rattle.engine.specs.Strictness.{pair_meaning}
+use Rattle.rows.specs.Worlds.{World}
+use Rattle.rows.specs.Rows.{value_in}
+use Rattle.rows.specs.Standing.{refs, up_from}
 use Rattle.rewriting.specs.Generated.{digits_onto, generated, highest, list_names}
 use Rattle.rewriting.specs.Outlay.{nothing, start_at}
 use Rattle.rewriting.specs.Extracting.{Outcome, built, no_change, refused, extract_from_plan}
@@ -278,20 +282,24 @@ plan_six =
     (built (projection (alias (reference X) (named (codes "k")) ∷ []) (join Left [] log (projection (alias (kind_of clip_event) X ∷ reference clip_event ∷ []) clip))) (start_at (suc first)))
 
 -- a Table `w` of n columns
+abbrev pub wide_names : ℕ → List Name
+wide_names n = map (λ k. codes "c" ++ digits_onto 2 k []) (up_from 0 n)
+
 abbrev pub wide : ℕ → Plan
-wide n = table 0 (codes "w") (map (λ k. codes "c" ++ digits_onto 2 k []) (up_from 0 n))
+wide n = table 0 (codes "w") (wide_names n)
 
-abbrev pub wide_test : Expr
-wide_test = two 1 (kind_of (column_of (codes "w") (codes "c00"))) spot
+abbrev pub wide_refs : ℕ → List Expr
+wide_refs n = refs (map (column_of (codes "w")) (wide_names n))
 
-unfoldable pub is_built : Outcome → Bool
-is_built (built p n) = true
-is_built (no_change n) = false
-is_built (refused x n) = false
+abbrev pub wide_kind : Expr
+wide_kind = kind_of (column_of (codes "w") (codes "c00"))
 
 -- 64 fields leave no place for a helper column; 63 do
 unfoldable pub plan_seven : Bool
-plan_seven = extract_gives (filter wide_test (wide 64)) (refused (fault Limited Extraction 0) (start_at first)) && is_built (extract_from_plan functions (filter wide_test (wide 63)) (start_at first))
+plan_seven =
+    extract_gives (filter (two 1 wide_kind spot) (wide 64)) (refused (fault Limited Extraction 0) (start_at first))
+    && extract_gives (filter (two 1 wide_kind spot) (wide 63))
+    (built (projection (wide_refs 63) (filter (two 1 (reference X) spot) (projection (alias wide_kind X ∷ wide_refs 63) (wide 63)))) (start_at (suc first)))
 
 -- past the last number: 8, stage 2
 unfoldable pub no_number : Bool
@@ -534,11 +542,24 @@ cheap =
     fits nothing (spent_in (extract_from_plan functions (filter (two 1 E spot) log) (start_at first)))
     && fits nothing (spent_in (push functions (projection (alias (kind_of clip_event) (named (codes "k")) ∷ []) left_join) (start_at first)))
 
+-- get_field over no records, and from function 1 on arithmetic
+abbrev pub world : World
+world = record {
+  book_text = [];
+  row_text = [];
+  meaning = pair_meaning 1 (λ book row. records (λ k name. null_value)) (λ book row. arithmetic);
+  contents = λ k. [];
+  arrange = λ ds ks. [];
+  group = λ ts ks. [];
+}
+
+-- on a row of log that starts at 2
+abbrev pub value_of : Expr → Value
+value_of e = value_in world (event ∷ start ∷ []) (null_value ∷ whole_value (pos 2) ∷ []) e
+
 -- an overflowing sum is null, and 50 frames are added to 2
 unfoldable pub plan_eight : Bool
-plan_eight =
-    is_null_value (arithmetic 1 (whole_value (pos 9223372036854775807) ∷ whole_value (pos 1) ∷ []))
-    && alike (arithmetic 1 (whole_value (pos 2) ∷ whole_value (pos 50) ∷ [])) (whole_value (pos 52))
+plan_eight = is_null_value (value_of (two 2 (number 9223372036854775807) (number 1))) && alike (value_of later) (whole_value (pos 52))
 
 unfoldable pub worked_plans_hold : Bool
 worked_plans_hold =
