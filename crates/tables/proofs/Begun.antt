@@ -1,11 +1,8 @@
 -- Tables that begin with others: what a call leaves that adds to them still begins with what there was when the marks were taken.
-use Rattle.terms.proofs.Begun.{at-once, begins-then, terms-at-once, terms-then}
+use Rattle.terms.proofs.Begun.{begins-then, terms-then}
 use Rattle.tables.specs.Begun.{TablesBegin, Begun}
 use Rattle.tables.specs.declared.marks.Marks.{Marks}
 use Rattle.tables.specs.declared.tables.Tables.{Tables}
-
-pub tables-at-once : (t : Tables) → TablesBegin t t
-tables-at-once t = record { terms = terms-at-once t.terms; fields = at-once t.fields; plans = at-once t.plans }
 
 pub tables-then : (s t u : Tables) → TablesBegin s t → TablesBegin t u → TablesBegin s u
 tables-then s t u a b = record {
