@@ -18,13 +18,13 @@ use Rattle.rows.proofs.Closure.{stands-filter, stands-limit, stands-sort}
 use Rattle.rows.proofs.Extract.{back-extend, covers-behind, extended, pick-behind-wide, stands-extend, stands_self}
 use Rattle.rows.proofs.Finds.{covers_at, mean-refl, mean-trans, pick_at}
 use Rattle.rows.proofs.Joins.{covers-left, pick-left}
-use Rattle.rows.proofs.Lists.{all_any, all-gather, all_keep, all_of_map, map-append, map_with}
+use Rattle.rows.proofs.Lists.{all_any, all-gather, all_keep, all_of_map, all_two, map-append, map_with}
 use Rattle.rows.proofs.More.{get_or-map-in, pick-through, stands-through, through}
 use Rattle.rows.proofs.Resolving.{field-eq}
 use Rattle.rows.proofs.Wide.{Wide, cut_all, rows-wide}
 use Rattle.rows.proofs.Words.{eval, evals, rows}
 use Rattle.rows.specs.Rows.{may_mean, rows_of, seek, value_in}
-use Rattle.rows.specs.Standing.{Covers, Known, Lawful, Stands, at, pick, refs, up_from}
+use Rattle.rows.specs.Standing.{Covers, Known, Knowns, Lawful, Stands, at, pick, refs, up_from}
 use Rattle.rows.specs.Worlds.{Fitting, Row, applied}
 use Rattle.rewriting.proofs.Equals.{same-eval, same_known, same-owned}
 use Rattle.rewriting.specs.Extracting.{add_column, add_columns, add_pair, add_pairs, aliased, freshly, build_projection_replace_map, merged, replace_cols_by_name, replace_cols_by_names, resolved_in}
@@ -146,21 +146,23 @@ module _ {F : Functions} where
     mutual
       unfolding value_in replace_cols_by_name unalias
 
-      replace-eval : (e : Expr) → eval W (map (field_of F) es) (map (eval W fs row) es) e ≡ eval W fs row (replace_cols_by_name (build_projection_replace_map F es) e)
-      replace-eval (reference r) =
+      replace-eval : (e : Expr) → Known (map (field_of F) es) e → eval W (map (field_of F) es) (map (eval W fs row) es) e ≡ eval W fs row (replace_cols_by_name (build_projection_replace_map F es) e)
+      replace-eval (reference r) known =
           let k = seek r (map (field_of F) es) in
-          get_or-map (eval W fs row) es k (literal null_literal) ∙ sym (unalias-eval (get_or es k (literal null_literal))) ∙ sym (ap (eval W fs row) (get_or-map unalias es k (literal null_literal)))
-      replace-eval (literal v) = refl
-      replace-eval (alias e f) = replace-eval e
-      replace-eval (call n args) = ap (applied W.world n) (replaces-eval args)
+          let h = known.inside in
+          let lt : k < length es = rw (length-map es (field_of F)) at h in
+          get_or-map (eval W fs row) es k (literal null_literal) ∙ sym (unalias-eval (get_or es k (literal null_literal))) ∙ sym (ap (eval W fs row) (get_or-map-in unalias es k (reference r) (literal null_literal) lt))
+      replace-eval (literal v) h = refl
+      replace-eval (alias e f) h = replace-eval e h
+      replace-eval (call n args) h = ap (applied W.world n) (replaces-eval args h)
 
-      replaces-eval : (args : Exprs) → evals W (map (field_of F) es) (map (eval W fs row) es) args ≡ evals W fs row (replace_cols_by_names (build_projection_replace_map F es) args)
-      replaces-eval none = refl
-      replaces-eval (more e args) = let p = replace-eval e in let q = replaces-eval args in cc
+      replaces-eval : (args : Exprs) → Knowns (map (field_of F) es) args → evals W (map (field_of F) es) (map (eval W fs row) es) args ≡ evals W fs row (replace_cols_by_names (build_projection_replace_map F es) args)
+      replaces-eval none h = refl
+      replaces-eval (more e args) h = let p = replace-eval e h.0 in let q = replaces-eval args h.1 in cc
 
-    pub resolved-eval : (e : Expr) → eval W (map (field_of F) es) (map (eval W fs row) es) e ≡ eval W fs row (resolved_in F es e)
+    pub resolved-eval : (e : Expr) → Known (map (field_of F) es) e → eval W (map (field_of F) es) (map (eval W fs row) es) e ≡ eval W fs row (resolved_in F es e)
     unfolding resolved_in
-    resolved-eval e = replace-eval e
+    resolved-eval e h = replace-eval e h
 
 -- the same, or equal as expressions
 abbrev pub Alike : Expr → Expr → Type 0
@@ -209,20 +211,20 @@ module _ (F : Functions) (es rest : List Expr) (I : Plan) where
   unfolding rows_of
   stands-more = record { covers = covers_more; alike = λ W. sym (map_with _ _ _ (rows W I) (λ row. back-row W row)) }
 
-  more-holds : (p : Pair) → Like (es ++ rest) (alias (resolved_in F es p.0) (unqualified_field p.1)) → Holds F (projection (es ++ rest) I) (up_from 0 (length es)) (projection es I) (unqualified_field p.1) p.0
+  more-holds : (p : Pair) → Known (map (field_of F) es) p.0 → Like (es ++ rest) (alias (resolved_in F es p.0) (unqualified_field p.1)) → Holds F (projection (es ++ rest) I) (up_from 0 (length es)) (projection es I) (unqualified_field p.1) p.0
   unfolding rows_of value_in
-  more-holds p h = record {
+  more-holds p k h = record {
     place = h.1.0;
     inside = rw (length-map (es ++ rest) (field_of F)) h.1.1;
     meant = rw (field-entry F (es ++ rest) h.1.0 h.0 h.1.1 (h.1.2 (literal null_literal)), alike-field F _ _ h.0 h.2) (mean-refl (unqualified_field p.1));
     value = λ W. All-map _ _ (rows W I) (all_any _ (rows W I) (λ row.
         value-entry W (fields_of F I) row (es ++ rest) h.1.0 h.0 (h.1.2 (literal null_literal))
         ∙ sym (alike-eval W (fields_of F I) row (alias (resolved_in F es p.0) (unqualified_field p.1)) h.0 h.2)
-        ∙ sym (resolved-eval W (fields_of F I) es row p.0) ∙ sym (ap (λ (r : Row). eval W (map (field_of F) es) r p.0) (back-row W row))));
+        ∙ sym (resolved-eval W (fields_of F I) es row p.0 k) ∙ sym (ap (λ (r : Row). eval W (map (field_of F) es) r p.0) (back-row W row))));
   }
 
-  pub carries-more : (ps : List Pair) → AllByRecursion (λ p. Like (es ++ rest) (alias (resolved_in F es p.0) (unqualified_field p.1))) ps → Carries F (projection (es ++ rest) I) (projection es I) ps
-  carries-more ps h = record { σ = _; stands = stands-more; holds = All-weaker _ _ more-holds ps h }
+  pub carries-more : (ps : List Pair) → AllByRecursion (λ p. Known (map (field_of F) es) p.0) ps → AllByRecursion (λ p. Like (es ++ rest) (alias (resolved_in F es p.0) (unqualified_field p.1))) ps → Carries F (projection (es ++ rest) I) (projection es I) ps
+  carries-more ps k h = record { σ = _; stands = stands-more; holds = all_two _ _ _ more-holds ps k h }
 
 -- the merge adds behind, and has every pair
 has-any : (a : Expr) (es : List Expr) → T (any (same_expr a) es) → Like es a
@@ -284,12 +286,12 @@ unfolding merged
 merged-grown F I es ps cs = grown-trans es _ _ (add-pairs F es ps es).0 (add-columns F (fields_of F I) es cs (add_pairs F es ps es))
 
 module _ {F : Functions} where
-  pub carries-merge : (es : List Expr) (I : Plan) (ps : List Pair) (cs : List Field) → Carries F (projection (merged F I es ps cs) I) (projection es I) ps
+  pub carries-merge : (es : List Expr) (I : Plan) (ps : List Pair) (cs : List Field) → AllByRecursion (λ p. Known (map (field_of F) es) p.0) ps → Carries F (projection (merged F I es ps cs) I) (projection es I) ps
   unfolding merged
-  carries-merge es I ps cs =
+  carries-merge es I ps cs k =
       let g = merged-grown F I es ps cs in
       let a = add-pairs F es ps es in
       let c = add-columns F (fields_of F I) es cs (add_pairs F es ps es) in
-      let h = All-weaker _ _ (λ p k. grown-has (add_pairs F es ps es) (merged F I es ps cs) (alias (resolved_in F es p.0) (unqualified_field p.1)) c k) ps a.1 in
-      subst (λ (l : List Expr). Carries F (projection l I) (projection es I) ps) (sym g.1) (carries-more F es g.0 I ps
+      let h = All-weaker _ _ (λ p l. grown-has (add_pairs F es ps es) (merged F I es ps cs) (alias (resolved_in F es p.0) (unqualified_field p.1)) c l) ps a.1 in
+      subst (λ (l : List Expr). Carries F (projection l I) (projection es I) ps) (sym g.1) (carries-more F es g.0 I ps k
       (subst (λ (l : List Expr). AllByRecursion (λ p. Like l (alias (resolved_in F es p.0) (unqualified_field p.1))) ps) g.1 h))

@@ -2,7 +2,7 @@
 use Rattle.std.proofs.Common.{◌≡◌, ℕ, ◌+◌, ◌<◌, Bool, true, false, cond, T, eqb, ◌⊎◌, List, [], ◌∷◌, ◌++◌, map, length, get_or, Some, sym, refl, ap, ◌∙◌, subst, inl, inr, append-nil, arith, eqb→eq, length-append, get_or-append-add}
 use lib.ListN.{get_or-append}
 use mir.Facts.{yes_and}
-use Rattle.std.proofs.ByRecursion.{all-has}
+use Rattle.std.proofs.ByRecursion.{all-has, All-map, All-weaker}
 use Rattle.std.specs.List.{AllByRecursion}
 use Rattle.plan.specs.Faults.{fault}
 use Rattle.plan.specs.Functions.{Functions}
@@ -33,13 +33,13 @@ use Rattle.rewriting.proofs.CarryJoins.{known-left, known-right, pick-wide}
 use Rattle.rewriting.proofs.Equals.{fields-eq}
 use Rattle.rewriting.proofs.Made.{filter-known, good-lawful, join-known, made-gives, of_refs, project-known, sort-known, then-gives, remade-gives, when-gives}
 use Rattle.rewriting.proofs.PushKeeps.{same-fields}
-use Rattle.rewriting.proofs.Splits.{Bears, Here, carries-extraction, entry_here, extraction-good}
+use Rattle.rewriting.proofs.Splits.{Bears, Here, carries-extraction, entry_here, extraction-good, keep-with, pairs-all, unalias-known}
 use Rattle.rewriting.proofs.Swaps.{Swap, SwapAll, swap-mono}
 use Rattle.rewriting.proofs.Walks.{AnyHolds, Held, SwapKeys, agree-rows, carries-held, carry-all, keys-after, list-after, swap-carry, walk_after}
 use Rattle.rewriting.specs.Extracting.{Outcome, aliased, build_extraction_projection_impl, build_recovery_projection, built, by_place, extract_from_plan, build_extraction_projection, freshly, merged, no_change, rebuilt, refused, same_fields, stage_of, when_new, remade, when_extractable}
 use Rattle.rewriting.specs.Laws.{Gives}
 use Rattle.rewriting.specs.Outlay.{Tally}
-use Rattle.rewriting.specs.Routing.{Entry, Extractor, Pair, Side, empty_extractor, find_owning_input, find_sole_input, has_all_column_refs, one, owner_of, pairs_of, routing_extract, routing_extract_all, routing_extract_keys, two, schema_columns, has_extractable_expr}
+use Rattle.rewriting.specs.Routing.{Entry, Extractor, Pair, Side, empty_extractor, find_owning_input, find_sole_input, has_all_column_refs, one, owner_of, pairs_of, routing_extract, routing_extract_all, same_side, unalias, routing_extract_keys, two, schema_columns, has_extractable_expr}
 
 abbrev pub Keeping : Functions → Plan → Plan → Type 0
 Keeping F P R = Same F R P × Good F R
@@ -78,13 +78,17 @@ pub record Placed (F : Functions) (R P : Plan) (ps : List Pair) : Type 0 where
   pub bears : Bears F R P ps
   pub widens : Widens (fields_of F R) (fields_of F P)
 
-pub extracted-placed : (F : Functions) (P : Plan) → Good F P → (ps : List Pair) (cs : List Field) (n : Tally) → Gives (λ R. Placed F R P ps) (build_extraction_projection F 0 P ps cs n)
+pub extracted-placed : (F : Functions) (P : Plan) → Good F P → (ps : List Pair) (cs : List Field) (n : Tally) → AllByRecursion (λ p. Known (fields_of F P) p.0) ps → Gives (λ R. Placed F R P ps) (build_extraction_projection F 0 P ps cs n)
 unfolding build_extraction_projection
-extracted-placed F P g [] cs n = record { bears = record { good = g; carries = carries-none P }; widens = inl refl }
-extracted-placed F P g (d ∷ ds) cs n = made-gives _ F (stage_of P) 0 (build_extraction_projection_impl F P (d ∷ ds) cs) _ (λ a. record {
-  bears = record { good = extraction-good F P g (d ∷ ds) cs a; carries = carries-extraction P g (d ∷ ds) cs };
+extracted-placed F P g [] cs n k = record { bears = record { good = g; carries = carries-none P }; widens = inl refl }
+extracted-placed F P g (d ∷ ds) cs n k = made-gives _ F (stage_of P) 0 (build_extraction_projection_impl F P (d ∷ ds) cs) _ (λ a. record {
+  bears = record { good = extraction-good F P g (d ∷ ds) cs a; carries = carries-extraction P g (d ∷ ds) cs k };
   widens = extraction-widens F P d ds cs;
 })
+
+-- what a walk over one input takes out is known there
+pub here-known : (fs : List Field) (ds : List Entry) → AllByRecursion (Here fs) ds → AllByRecursion (λ p. Known fs p.0) (pairs_of one ds)
+here-known fs ds h = pairs-all (λ p. Known fs p.0) one ds (All-weaker _ _ (λ d k. unalias-known fs d.1 k.1) ds h)
 
 -- the recovery
 qualifier-refl : (q : Qualifier) → T (same_qualifier q q)
@@ -147,7 +151,7 @@ filter-keeps F e i n g =
     let w = routing_extract F (find_sole_input (schema_columns (fields_of F i))) e (empty_extractor n.next) in
     let a = walk_after F (find_sole_input (schema_columns (fields_of F i))) (fields_of F i) (Here (fields_of F i)) (entry_here F (fields_of F i)) e (empty_extractor n.next) (filter-known e i g.0) in
     let h : AllByRecursion (Here (fields_of F i)) w.1.entries = a.1.keeps (unfold empty_extractor in tt) in
-    when-extractable (Keeping F (filter e i)) F _ n _ (when-new (Keeping F (filter e i)) w.1 _ _ _ (then-gives _ (Keeping F (filter e i)) _ _ (extracted-placed F i g.1 _ _ _)
+    when-extractable (Keeping F (filter e i)) F _ n _ (when-new (Keeping F (filter e i)) w.1 _ _ _ (then-gives _ (Keeping F (filter e i)) _ _ (extracted-placed F i g.1 _ _ _ (here-known (fields_of F i) w.1.entries h))
     (λ r m b. rebuilt-wide F (filter e i) (filter w.0 r) m (λ x. (
       (x, b.bears.good),
       (
@@ -205,7 +209,7 @@ sort-keeps F ks i n g =
     let w = routing_extract_keys F (find_sole_input (schema_columns (fields_of F i))) ks (empty_extractor n.next) in
     let a = keys-after F (find_sole_input (schema_columns (fields_of F i))) (fields_of F i) (Here (fields_of F i)) (entry_here F (fields_of F i)) ks (empty_extractor n.next) (sort-known ks i g.0) in
     let h : AllByRecursion (Here (fields_of F i)) w.1.entries = a.1.keeps (unfold empty_extractor in tt) in
-    when-extractable (Keeping F (sort ks i)) F _ n _ (when-new (Keeping F (sort ks i)) w.1 _ _ _ (then-gives _ (Keeping F (sort ks i)) _ _ (extracted-placed F i g.1 _ _ _)
+    when-extractable (Keeping F (sort ks i)) F _ n _ (when-new (Keeping F (sort ks i)) w.1 _ _ _ (then-gives _ (Keeping F (sort ks i)) _ _ (extracted-placed F i g.1 _ _ _ (here-known (fields_of F i) w.1.entries h))
     (λ r m b. rebuilt-wide F (sort ks i) (sort w.0 r) m (λ x. (
       (x, b.bears.good),
       (
@@ -222,17 +226,40 @@ entry-sided : (fl fr : List Field) (s : Side) (n : ℕ) (es : Exprs) (x : Name) 
 unfolding Sided
 entry-sided fl fr s n es x k p = (k, p)
 
--- a column of either side
-record Beside (F : Functions) (x y l r : Plan) (σ τ : List ℕ) (f : Field) (e : Expr) : Type 0 where
-  joint : Known (fields_of F l ++ fields_of F r) e
-  side : (Holds F x σ l f e × Known (fields_of F l) e) ⊎ (Holds F y τ r f e × Known (fields_of F r) e)
-
 owner-side : (a b : Bool) (s : Side) → owner_of a b ≡ Some s → ((s ≡ one) × T a) ⊎ ((s ≡ two) × T b)
 unfolding owner_of
 owner-side true true s p = let z : ◌≡◌ {A = ℕ} 0 1 = cc in absurd (omega arith)
 owner-side true false s p = inl (cc, tt)
 owner-side false true s p = inr (cc, tt)
 owner-side false false s p = let z : ◌≡◌ {A = ℕ} 0 1 = cc in absurd (omega arith)
+
+-- each side knows what is taken out for it
+sided-left : (fl fr : List Field) (d : Entry) → Sided fl fr d → T (same_side d.0 one) → Known fl (unalias d.1)
+unfolding Sided find_owning_input same_side
+sided-left fl fr d h t = unalias-known fl d.1 (elim (owner-side (has_all_column_refs (schema_columns fl) d.1) (has_all_column_refs (schema_columns fr) d.1) d.0 h.1) [
+  | inl a ↦ known-left fl fr d.1 h.0 a.1
+  | inr a ↦ absurd (subst (λ (s : Side). T (same_side s one)) a.0 t)
+])
+
+sided-right : (fl fr : List Field) (d : Entry) → Sided fl fr d → T (same_side d.0 two) → Known fr (unalias d.1)
+unfolding Sided find_owning_input same_side
+sided-right fl fr d h t = unalias-known fr d.1 (elim (owner-side (has_all_column_refs (schema_columns fl) d.1) (has_all_column_refs (schema_columns fr) d.1) d.0 h.1) [
+  | inl a ↦ absurd (subst (λ (s : Side). T (same_side s two)) a.0 t)
+  | inr a ↦ known-right fl fr d.1 h.0 a.1
+])
+
+left-known : (fl fr : List Field) (ds : List Entry) → AllByRecursion (Sided fl fr) ds → AllByRecursion (λ p. Known fl p.0) (pairs_of one ds)
+unfolding pairs_of
+left-known fl fr ds h = All-map (λ p. Known fl p.0) _ _ (keep-with (Sided fl fr) (λ d. Known fl (unalias d.1)) (λ d. same_side d.0 one) (sided-left fl fr) ds h)
+
+right-known : (fl fr : List Field) (ds : List Entry) → AllByRecursion (Sided fl fr) ds → AllByRecursion (λ p. Known fr p.0) (pairs_of two ds)
+unfolding pairs_of
+right-known fl fr ds h = All-map (λ p. Known fr p.0) _ _ (keep-with (Sided fl fr) (λ d. Known fr (unalias d.1)) (λ d. same_side d.0 two) (sided-right fl fr) ds h)
+
+-- a column of either side
+record Beside (F : Functions) (x y l r : Plan) (σ τ : List ℕ) (f : Field) (e : Expr) : Type 0 where
+  joint : Known (fields_of F l ++ fields_of F r) e
+  side : (Holds F x σ l f e × Known (fields_of F l) e) ⊎ (Holds F y τ r f e × Known (fields_of F r) e)
 
 module _ {F : Functions} where
   held-beside : (x y l r : Plan) (ds : List Entry) → AllByRecursion (Sided (fields_of F l) (fields_of F r)) ds → (cx : Carries F x l (pairs_of one ds)) (cy : Carries F y r (pairs_of two ds))
@@ -346,8 +373,8 @@ join-keeps F k cs l r n g =
     let w = routing_extract_all F own cs (empty_extractor n.next) in
     let a = list-after F own (fields_of F l ++ fields_of F r) (Sided (fields_of F l) (fields_of F r)) (entry-sided (fields_of F l) (fields_of F r)) cs (empty_extractor n.next) (join-known k cs l r g.0) in
     let h : AllByRecursion (Sided (fields_of F l) (fields_of F r)) w.1.entries = a.1.keeps (unfold empty_extractor in tt) in
-    when-extractable (Keeping F (join k cs l r)) F _ n _ (when-new (Keeping F (join k cs l r)) w.1 _ _ _ (then-gives _ (Keeping F (join k cs l r)) _ _ (extracted-placed F l g.1 _ _ _)
-    (λ x m bx. then-gives _ (Keeping F (join k cs l r)) _ _ (extracted-placed F r g.2 _ _ _)
+    when-extractable (Keeping F (join k cs l r)) F _ n _ (when-new (Keeping F (join k cs l r)) w.1 _ _ _ (then-gives _ (Keeping F (join k cs l r)) _ _ (extracted-placed F l g.1 _ _ _ (left-known (fields_of F l) (fields_of F r) w.1.entries h))
+    (λ x m bx. then-gives _ (Keeping F (join k cs l r)) _ _ (extracted-placed F r g.2 _ _ _ (right-known (fields_of F l) (fields_of F r) w.1.entries h))
     (λ y o by. rebuilt-wide F (join k cs l r) (join k w.0 x y) o (λ s. (
       (s, bx.bears.good, by.bears.good),
       (

@@ -1,8 +1,11 @@
 -- Push keeps fields and rows.
-use Rattle.std.proofs.Common.{◌≡◌, ℕ, Bool, true, false, cond, T, List, sym, ◌∙◌}
+use Rattle.std.proofs.Common.{◌≡◌, ℕ, Bool, true, false, cond, eqb, T, List, map, length, sym, refl, ◌∙◌, eqb→eq}
+use lib.ListN.{length-map}
+use mir.Facts.{and_yes}
 use Rattle.std.proofs.ByRecursion.{All-weaker}
+use Rattle.std.specs.List.{AllByRecursion}
 use Rattle.plan.specs.Functions.{Functions}
-use Rattle.plan.specs.Plans.{Plan, Plans, fields_of}
+use Rattle.plan.specs.Plans.{Plan, Plans, fields_of, without_qualifier}
 use Rattle.plan.specs.Plans.Plan.{aggregate, filter, join, limit, projection, sort, subquery_alias, table, union}
 use Rattle.plan.specs.Plans.Plans.{also, done}
 use Rattle.plan.specs.Terms.{Field}
@@ -12,11 +15,11 @@ use Rattle.rows.proofs.Extract.{own_row}
 use Rattle.rows.proofs.Lists.{map_same}
 use Rattle.rows.proofs.Wide.{rows-wide}
 use Rattle.rows.proofs.Words.{rows}
-use Rattle.rows.specs.Standing.{Good, Goods, Known, Lawful, Same, Stands, pick, refs}
+use Rattle.rows.specs.Standing.{Good, Goods, Known, Lawful, Same, Stands, pick, refs, wide_all}
 use Rattle.rewriting.proofs.Carries.{carries-filter, carries-limit, carries-sort}
 use Rattle.rewriting.proofs.Equals.{fields-eq}
 use Rattle.rewriting.proofs.Made.{filter-known, good-lawful, of_refs, project-known, remade-gives, sort-known, then-gives, when-gives}
-use Rattle.rewriting.proofs.Pushes.{WorkSound, join-into, one-into, project-sound, subquery-into, worker-sound}
+use Rattle.rewriting.proofs.Pushes.{WorkSound, join-into, one-into, project-sound, remapped-known, subquery-into, worker-sound}
 use Rattle.rewriting.proofs.Splits.{Answer, Bears, IntoSound}
 use Rattle.rewriting.proofs.Unions.{BearsAll, union-united}
 use Rattle.rewriting.specs.Extracting.{Outcome, built, same_fields, remade}
@@ -30,14 +33,24 @@ unfolding not_tried
 not-tried F P ps cs whole level n k = tt
 
 abbrev WorksSound : Functions → Plans → IntoAll → Type 0
-WorksSound F is ws = (from : List Field) (ps : List Pair) (cs : List Field) (level : ℕ) (n : Tally) (k : Plans → Tally → Outcome) (Q : Plan) (qs : List Pair)
+WorksSound F is ws = (from : List Field) (ps : List Pair) (cs : List Field) (level : ℕ) (n : Tally) (k : Plans → Tally → Outcome) (Q : Plan) (qs : List Pair) → AllByRecursion (λ p. Known from p.0) ps → T (wide_all F (length from) is)
     → ((rs : Plans) (o : Tally) → BearsAll F from ps is rs → Gives (λ R. Bears F R Q qs) (k rs o)) → Gives (λ R. Bears F R Q qs) (ws from ps cs level n k)
 
 union-into : (F : Functions) (i : Plan) (is : Plans) → Good F (union i is) → (w : Work) (ws : IntoAll) → WorkSound F i w → WorksSound F is ws → IntoSound F (union i is) (anyway (into_union F i is w.place ws))
 unfolding into_union
 union-into F i is g w ws s ss ps cs whole level n k =
-    when-gives _ (has_pairs ps) n _ (then-gives _ _ _ _ (s.place _ _ level _) (λ r m b.
-    ss (fields_of F (union i is)) ps cs level m _ (union i is) ps (λ rs o bs. union-united F level ps i is r rs o g k b bs)))
+    when-gives _ (has_pairs ps) n _ (then-gives _ _ _ _ (s.place _ _ level _ (remapped-known from (fields_of F i) long (good-lawful F i g.1) ps k)) (λ r m b.
+    ss from ps cs level m _ (union i is) ps k (rw long g.3) (λ rs o bs. union-united F level ps i is r rs o g k b bs)))
+  where
+    from : List Field
+    from = map without_qualifier (fields_of F i)
+
+    long : length from ≡ length (fields_of F i)
+    long = length-map {B = Field} (fields_of F i) without_qualifier
+
+all_wide : (F : Functions) (n : ℕ) (i : Plan) (is : Plans) → T (wide_all F n (also i is)) → (n ≡ length (fields_of F i)) × T (wide_all F n is)
+unfolding wide_all
+all_wide F n i is w = let v = and_yes (eqb (length (fields_of F i)) n) (wide_all F n is) w in (sym (eqb→eq (length (fields_of F i)) n v.0), v.1)
 
 mutual
   unfolding work
@@ -46,17 +59,17 @@ mutual
   work-sound F (table k q ns) g = worker-sound F (table k q ns) g (anyway not_tried) (not-tried F _)
   work-sound F (projection es i) g = project-sound F es i g (work F i) (work-sound F i g.1)
   work-sound F (filter e i) g =
-      worker-sound F (filter e i) g _ (one-into F (filter e) i (work F i) (work-sound F i g.1) (λ R ps b x. record {
+      worker-sound F (filter e i) g _ (one-into F (filter e) i (work F i) refl (work-sound F i g.1) (λ R ps b x. record {
         good = (x, b.good);
         carries = carries-filter b.carries e (filter-known e i g.0) (filter-known e R x);
       }))
   work-sound F (sort ks i) g =
-      worker-sound F (sort ks i) g _ (one-into F (sort ks) i (work F i) (work-sound F i g.1) (λ R ps b x. record {
+      worker-sound F (sort ks i) g _ (one-into F (sort ks) i (work F i) refl (work-sound F i g.1) (λ R ps b x. record {
         good = (x, b.good);
         carries = carries-sort b.carries ks (sort-known ks i g.0) (sort-known ks R x);
       }))
   work-sound F (limit s c i) g =
-      worker-sound F (limit s c i) g _ (one-into F (limit s c) i (work F i) (work-sound F i g.1) (λ R ps b x. record {
+      worker-sound F (limit s c i) g _ (one-into F (limit s c) i (work F i) refl (work-sound F i g.1) (λ R ps b x. record {
         good = (x, b.good);
         carries = carries-limit b.carries s c;
       }))
@@ -66,10 +79,11 @@ mutual
   work-sound F (aggregate gs ts i) g = worker-sound F (aggregate gs ts i) g (anyway not_tried) (not-tried F _)
 
   works-sound : (F : Functions) (is : Plans) → Goods F is → WorksSound F is (works F is)
-  works-sound F done g from ps cs level n k Q qs f = f done n tt
-  works-sound F (also i is) g from ps cs level n k Q qs f =
-      then-gives _ _ _ _ ((work-sound F i g.0).place (remap_pairs from (fields_of F i) ps) (remap_columns from (fields_of F i) cs) level _)
-      (λ r m b. works-sound F is g.1 from ps cs level m _ Q qs (λ rs o bs. f (also r rs) o (b, bs)))
+  works-sound F done g from ps cs level n k Q qs kp w f = f done n tt
+  works-sound F (also i is) g from ps cs level n k Q qs kp w f =
+      let v = all_wide F (length from) i is w in
+      then-gives _ _ _ _ ((work-sound F i g.0).place (remap_pairs from (fields_of F i) ps) (remap_columns from (fields_of F i) cs) level _ (remapped-known from (fields_of F i) v.0 (good-lawful F i g.0) ps kp))
+      (λ r m b. works-sound F is g.1 from ps cs level m _ Q qs kp v.1 (λ rs o bs. f (also r rs) o (b, bs)))
 
 module _ {F : Functions} where
   -- what stands with the very same fields is the same

@@ -2,7 +2,7 @@
 use Rattle.std.proofs.Common.{◌≡◌, ℕ, suc, ◌<◌, Bool, true, false, cond, ◌&&◌, ◌||◌, T, List, [], ◌∷◌, ◌++◌, map, length, get_or, Some, None, Option, sym, refl, ap, ◌∙◌, subst, inl, inr, append-nil, arith}
 use lib.ListN.{length-map}
 use mir.Facts.{and_yes, yes_and}
-use Rattle.std.proofs.ByRecursion.{All-get_or, All-weaker}
+use Rattle.std.proofs.ByRecursion.{All-get_or, All-map, All-weaker}
 use Rattle.std.specs.List.{AllByRecursion}
 use Rattle.plan.specs.Fields.{every}
 use Rattle.plan.specs.Functions.{Functions, null_keeping}
@@ -14,7 +14,6 @@ use Rattle.plan.specs.Terms.{Expr, Exprs, Field, Qualifier}
 use Rattle.plan.specs.Terms.Expr.{alias, call, literal, reference}
 use Rattle.plan.specs.Terms.Exprs.{more, none}
 use Rattle.plan.specs.Terms.Qualifier.{qualified}
-use Rattle.plan.specs.Terms.Literal.{null as null_literal}
 use Rattle.plan.specs.Values.{null}
 use Rattle.plan.specs.declared.code.JoinKind.{JoinKind}
 use Rattle.plan.specs.declared.code.JoinKind.TheVariants.{Full, Inner, Left, LeftAnti, LeftSemi, Right, RightAnti, RightSemi}
@@ -34,7 +33,7 @@ use Rattle.rewriting.proofs.Carries.{Carries, Holds, carries-fresh, carries-merg
 use Rattle.rewriting.proofs.Columns.{columns-mean}
 use Rattle.rewriting.proofs.CarryJoins.{holds-left, holds-right, known-left, known-right}
 use Rattle.rewriting.proofs.Made.{every-all, good-lawful, join-known, keep-gives, made-gives, project-known, then-gives, when-gives, remade-gives}
-use Rattle.rewriting.proofs.Splits.{Answer, Bears, IntoSound, over-answers}
+use Rattle.rewriting.proofs.Splits.{Answer, Bears, IntoSound, keep-with, over-answers}
 use Rattle.rewriting.specs.Extracting.{Outcome, and_then, built, freshly, made, merged, extraction_space, no_change, replace_cols_by_name, replace_cols_by_names}
 use Rattle.rewriting.specs.Laws.{Gives}
 use Rattle.rewriting.specs.Outlay.{Tally, charged}
@@ -44,7 +43,7 @@ use Rattle.rewriting.specs.Sample.{node}
 
 pub record WorkSound (F : Functions) (P : Plan) (w : Work) : Type 0 where
   pub over : (es : List Expr) (level : ℕ) (n : Tally) → AllByRecursion (Known (fields_of F P)) es → Gives (λ R. Answer F R (projection es P)) (w.over es level n)
-  pub place : (ps : List Pair) (cs : List Field) (level : ℕ) (n : Tally) → Gives (λ R. Bears F R P ps) (w.place ps cs level n)
+  pub place : (ps : List Pair) (cs : List Field) (level : ℕ) (n : Tally) → AllByRecursion (λ p. Known (fields_of F P) p.0) ps → Gives (λ R. Bears F R P ps) (w.place ps cs level n)
 
 module _ {F : Functions} where
   -- an extraction projection Q over P or over its input, pushed further
@@ -65,7 +64,7 @@ pub worker-sound : (F : Functions) (P : Plan) → Good F P → (into : Into) →
 unfolding worker
 worker-sound F P g into sound = record {
   over = λ es level n k. over-answers F P g into sound es level n k;
-  place = λ ps cs level n.
+  place = λ ps cs level n k.
       let es = freshly (fields_of F P) ps in
       then-gives (λ q. Bears F (projection es P) P ps × AllByRecursion (Known (fields_of F P)) es × (q ≡ projection es P)) _ _ _
       (made-gives _ F Extraction level (projection es P) _ (λ a. (record { good = (a, g); carries = carries-fresh F P (good-lawful F P g) ps }, project-known es P a g, refl)))
@@ -78,7 +77,7 @@ project-into F es i g w s ps cs false level n k = tt
 project-into F es i g w s ps cs true level n k =
     let ms = merged F i es ps cs in
     then-gives (λ q. Bears F (projection ms i) (projection es i) ps × AllByRecursion (Known (fields_of F i)) ms × (q ≡ projection ms i)) _ _ _
-    (made-gives _ F Merge level (projection ms i) _ (λ a. (record { good = (a, g.1); carries = carries-merge es i ps cs }, project-known ms i a g.1, refl)))
+    (made-gives _ F Merge level (projection ms i) _ (λ a. (record { good = (a, g.1); carries = carries-merge es i ps cs k }, project-known ms i a g.1, refl)))
     (λ q m h. rw h.2 (go (is_pure_extraction_projection ms) m h.0 h.1))
   where
     go : (b : Bool) (m : Tally) → Bears F (projection (merged F i es ps cs) i) (projection es i) ps → AllByRecursion (Known (fields_of F i)) (merged F i es ps cs)
@@ -93,10 +92,10 @@ pub project-sound : (F : Functions) (es : List Expr) (i : Plan) → Good F (proj
 })
 project-sound F es i g w s = record {
   over = λ ds level n k. over-answers F (projection es i) g (into_projection F es i w.over) (project-into F es i g w s) ds level n k;
-  place = λ ps cs level n.
+  place = λ ps cs level n k.
       let ms = merged F i es ps cs in
       then-gives (λ q. Bears F (projection ms i) (projection es i) ps × AllByRecursion (Known (fields_of F i)) ms × (q ≡ projection ms i)) _ _ _
-      (made-gives _ F Merge level (projection ms i) _ (λ a. (record { good = (a, g.1); carries = carries-merge es i ps cs }, project-known ms i a g.1, refl)))
+      (made-gives _ F Merge level (projection ms i) _ (λ a. (record { good = (a, g.1); carries = carries-merge es i ps cs k }, project-known ms i a g.1, refl)))
       (λ q m h. rw h.2 (placed-bears ps _ m h.0 (s.over ms (suc level) m h.1)));
 }
 
@@ -126,11 +125,12 @@ module _ (cols : List Field) (ps : List Pair) (cs : List Field) where
       (every-all (λ p. is_one (own p.0) || is_two (own p.0)) ps (and_yes (every (λ p. is_one (own p.0) || is_two (own p.0)) ps) _ t).0))
 
 -- one input of the same fields, or of others
-pub one-sound : (F : Functions) (node : Plan → Plan) (i P : Plan) (place : Place) (qs : List Pair) → ((ps : List Pair) (cs : List Field) (level : ℕ) (n : Tally) → Gives (λ R. Bears F R i ps) (place ps cs level n))
-    → (ps : List Pair) → ((R : Plan) → Bears F R i ps → Passed F (node R) → Bears F (node R) P qs)
+pub one-sound : (F : Functions) (node : Plan → Plan) (i P : Plan) (place : Place) (qs : List Pair)
+    → ((ps : List Pair) (cs : List Field) (level : ℕ) (n : Tally) → AllByRecursion (λ p. Known (fields_of F i) p.0) ps → Gives (λ R. Bears F R i ps) (place ps cs level n))
+    → (ps : List Pair) → AllByRecursion (λ p. Known (fields_of F i) p.0) ps → ((R : Plan) → Bears F R i ps → Passed F (node R) → Bears F (node R) P qs)
     → (cs : List Field) (level : ℕ) (n : Tally) → Gives (λ R. Bears F R P qs) (into_one F node i place ps cs level n)
 unfolding into_one route_to_inputs when_routed
-one-sound F node i P place qs s ps f cs level n = go _ (λ t. t)
+one-sound F node i P place qs s ps k f cs level n = go _ (λ t. t)
   where
     cols : List Field
     cols = schema_columns (fields_of F i)
@@ -142,13 +142,14 @@ one-sound F node i P place qs s ps f cs level n = go _ (λ t. t)
         (λ t u. and_then (place t.pairs t.columns level n) (λ r m. rebuilt_over F level ps (node r) m)))
     go true h =
         let e = all-to-one cols ps cs (and_yes (routable (find_sole_input cols) ps cs) _ (h tt)).0 in
-        then-gives (λ R. Bears F R i ps) _ _ _ (subst (λ (l : List Pair). Gives (λ R. Bears F R i l) (place (to_one (find_sole_input cols) ps cs).pairs (to_one (find_sole_input cols) ps cs).columns level n)) e (s _ _ level n))
+        then-gives (λ R. Bears F R i ps) _ _ _ (subst (λ (l : List Pair). Gives (λ R. Bears F R i l) (place (to_one (find_sole_input cols) ps cs).pairs (to_one (find_sole_input cols) ps cs).columns level n)) e (s _ _ level n (subst (λ (l : List Pair). AllByRecursion (λ p. Known (fields_of F i) p.0) l) (sym e) k)))
         (λ R m b. rebuilt-gives _ level ps (node R) m (λ x. f R b x))
     go false h = tt
 
-pub one-into : (F : Functions) (node : Plan → Plan) (i : Plan) (w : Work) → WorkSound F i w
+pub one-into : (F : Functions) (node : Plan → Plan) (i : Plan) (w : Work) → fields_of F (node i) ≡ fields_of F i → WorkSound F i w
     → ((R : Plan) (ps : List Pair) → Bears F R i ps → Passed F (node R) → Bears F (node R) (node i) ps) → IntoSound F (node i) (anyway (into_one F node i w.place))
-one-into F node i w s f ps cs whole level n k = one-sound F node i (node i) w.place ps s.place ps (λ R b x. f R ps b x) cs level n
+one-into F node i w p s f ps cs whole level n k =
+    one-sound F node i (node i) w.place ps s.place ps (subst (λ (fs : List Field). AllByRecursion (λ p. Known fs p.0) ps) p k) (λ R b x. f R ps b x) cs level n
 
 module _ {F : Functions} where
   -- fields by place, under a renaming
@@ -162,7 +163,7 @@ module _ {F : Functions} where
           let lt = k.inside in
           let h : i < length to = omega arith in
           ap (λ (j : ℕ). get_or row j null) ((All-get_or (λ f. Known to (reference f)) to i (unqualified_field []) h lawful).sole i h (mean-refl (at to i)))
-          ∙ sym (ap (eval W to row) (get_or-map-in reference to i (literal null_literal) (unqualified_field []) h))
+          ∙ sym (ap (eval W to row) (get_or-map-in reference to i (reference r) (unqualified_field []) h))
       replace-rename (literal v) k = refl
       replace-rename (alias e f) k = replace-rename e k
       replace-rename (call n es) k = ap (applied W.world n) (replaces-rename es k)
@@ -174,6 +175,29 @@ module _ {F : Functions} where
     pub rename-eval : (e : Expr) → Known from e → eval W from row e ≡ eval W to row (remap from to e)
     unfolding remap
     rename-eval e k = replace-rename e k
+
+-- what is known is so under the renaming
+module _ (from to : List Field) (long : length from ≡ length to) (lawful : Lawful to) where
+  mutual
+    unfolding replace_cols_by_name
+
+    replace-known : (e : Expr) → Known from e → Known to (replace_cols_by_name (from, refs to) e)
+    replace-known (reference r) k =
+        let i = seek r from in
+        let lt = k.inside in
+        let h : i < length to = omega arith in
+        subst (Known to) (sym (get_or-map-in reference to i (reference r) (unqualified_field []) h)) (All-get_or (λ f. Known to (reference f)) to i (unqualified_field []) h lawful)
+    replace-known (literal v) k = tt
+    replace-known (alias e f) k = replace-known e k
+    replace-known (call n es) k = replaces-known es k
+
+    replaces-known : (es : Exprs) → Knowns from es → Knowns to (replace_cols_by_names (from, refs to) es)
+    replaces-known none k = tt
+    replaces-known (more e es) k = (replace-known e k.0, replaces-known es k.1)
+
+  pub remapped-known : (ps : List Pair) → AllByRecursion (λ p. Known from p.0) ps → AllByRecursion (λ p. Known to p.0) (remap_pairs from to ps)
+  unfolding remap remap_pairs
+  remapped-known ps k = All-map (λ p. Known to p.0) _ _ (All-weaker _ _ (λ p h. replace-known p.0 h) ps k)
 
 -- a name that may mean a field may mean it under another qualifier
 pub name-means : (x : Name) (q : Qualifier) (g : Field) → T (may_mean (unqualified_field x) g) → T (may_mean (unqualified_field x) (record { qualifier = q; name = g.name }))
@@ -206,7 +230,8 @@ module _ {F : Functions} where
 pub subquery-into : (F : Functions) (s : Name) (i : Plan) → Good F i → (w : Work) → WorkSound F i w → IntoSound F (subquery_alias s i) (anyway (into_subquery_alias F s i w.place))
 unfolding into_subquery_alias
 subquery-into F s i g w t ps cs whole level n k =
-    one-sound F (subquery_alias s) i (subquery_alias s i) w.place ps t.place _ (λ R b x. record {
+    one-sound F (subquery_alias s) i (subquery_alias s i) w.place ps t.place _
+    (remapped-known (fields_of F (subquery_alias s i)) (fields_of F i) (length-map {B = Field} (fields_of F i) (qualified_by s)) (good-lawful F i g) ps k) (λ R b x. record {
       good = (x, b.good);
       carries = carries-subquery s i g R ps k b.carries;
     }) _ level _
@@ -310,10 +335,24 @@ shown-right RightSemi fl fr e h k o = k
 shown-right RightAnti fl fr e h k o = k
 
 module _ {F : Functions} where
-  place-if : (i : Plan) (w : Work) → Good F i → WorkSound F i w → (ps : List Pair) (cs : List Field) (level : ℕ) (n : Tally) → Gives (λ R. Bears F R i ps) (place_if w.place i ps cs level n)
+  place-if : (i : Plan) (w : Work) → Good F i → WorkSound F i w → (ps : List Pair) (cs : List Field) (level : ℕ) (n : Tally) → AllByRecursion (λ p. Known (fields_of F i) p.0) ps → Gives (λ R. Bears F R i ps) (place_if w.place i ps cs level n)
   unfolding place_if
-  place-if i w g s [] cs level n = record { good = g; carries = carries-none i }
-  place-if i w g s (d ∷ ds) cs level n = s.place (d ∷ ds) cs level n
+  place-if i w g s [] cs level n k = record { good = g; carries = carries-none i }
+  place-if i w g s (d ∷ ds) cs level n k = s.place (d ∷ ds) cs level n k
+
+-- each side knows what goes to it
+module _ (F : Functions) (k : JoinKind) (es : List Expr) (l r : Plan) (ps : List Pair) (kp : AllByRecursion (λ p. Known (fields_of F (join k es l r)) p.0) ps) where
+  knows-left : AllByRecursion (λ p. Known (fields_of F l) p.0) (keep (λ p. is_one (find_owning_input (schema_columns (fields_of F l)) (schema_columns (fields_of F r)) p.0)) ps)
+  unfolding find_owning_input
+  knows-left =
+      keep-with (λ p. Known (shown k (fields_of F l) (fields_of F r)) p.0) (λ p. Known (fields_of F l) p.0) _ (λ p kk t.
+      shown-left k (fields_of F l) (fields_of F r) p.0 (left-shows k (fields_of F l) (fields_of F r) p.0 kk t) kk (owner-one (has_all_column_refs (schema_columns (fields_of F l)) p.0) (has_all_column_refs (schema_columns (fields_of F r)) p.0) t)) ps kp
+
+  knows-right : AllByRecursion (λ p. Known (fields_of F r) p.0) (keep (λ p. is_two (find_owning_input (schema_columns (fields_of F l)) (schema_columns (fields_of F r)) p.0)) ps)
+  unfolding find_owning_input
+  knows-right =
+      keep-with (λ p. Known (shown k (fields_of F l) (fields_of F r)) p.0) (λ p. Known (fields_of F r) p.0) _ (λ p kk t.
+      shown-right k (fields_of F l) (fields_of F r) p.0 (right-shows k (fields_of F l) (fields_of F r) p.0 kk t) kk (owner-two (has_all_column_refs (schema_columns (fields_of F l)) p.0) (has_all_column_refs (schema_columns (fields_of F r)) p.0) t)) ps kp
 
 module _ (F : Functions) (k : JoinKind) (es : List Expr) (l r x y : Plan) (ps : List Pair) where
   abbrev goes_left : Pair → Bool
@@ -389,8 +428,8 @@ join-into F k es l r g wl wr sl sr ps cs whole level n kp = go _ (λ t. t)
     sides true f t =
         let a = and_yes (side_allows F (pads_left k) tl.pairs) (side_allows F (pads_right k) tr.pairs) (f tt) in
         let c = and_yes (every (λ p. is_one (owned p.0) || is_two (owned p.0)) ps) _ t in
-        then-gives _ _ _ _ (place-if l wl g.1 sl tl.pairs _ level n) (λ x m bx.
-        then-gives _ _ _ _ (place-if r wr g.2 sr tr.pairs _ level m) (λ y o by.
+        then-gives _ _ _ _ (place-if l wl g.1 sl tl.pairs _ level n (knows-left F k es l r ps kp)) (λ x m bx.
+        then-gives _ _ _ _ (place-if r wr g.2 sr tr.pairs _ level m (knows-right F k es l r ps kp)) (λ y o by.
         rebuilt-gives _ level ps (join k es x y) o (λ s. record {
           good = (s, bx.good, by.good);
           carries = carries-join F k es l r x y ps kp (every-all (λ p. is_one (owned p.0) || is_two (owned p.0)) ps c.0) (side-allows F (pads_left k) tl.pairs a.0) (side-allows F (pads_right k) tr.pairs a.1)

@@ -20,6 +20,7 @@ use Rattle.rows.proofs.Finds.{covers_at, mean-trans, pick_at, name-eq}
 use Rattle.rows.proofs.Lists.{all_any, all_keep, all_two, map_on, map_with}
 use Rattle.rows.proofs.Resolving.{field-eq}
 use Rattle.rows.proofs.Words.{eval, rows}
+use Rattle.rows.specs.Lists.{keep}
 use Rattle.rows.specs.Rows.{rows_of, seek, value_in}
 use Rattle.rows.specs.Standing.{Covers, Good, Known, Passed, Same, Stands, at, pick, up_from}
 use Rattle.rows.specs.Worlds.{Fitting, Row}
@@ -265,17 +266,17 @@ module _ {F : Functions} where
       }
 
   -- the extraction projection over an input
-  pub carries-extraction : (P : Plan) → Good F P → (ps : List Pair) (cs : List Field) → Carries F (build_extraction_projection_impl F P ps cs) P ps
+  pub carries-extraction : (P : Plan) → Good F P → (ps : List Pair) (cs : List Field) → AllByRecursion (λ p. Known (fields_of F P) p.0) ps → Carries F (build_extraction_projection_impl F P ps cs) P ps
   unfolding build_extraction_projection_impl
-  carries-extraction (table k q ns) g ps cs = carries-fresh F (table k q ns) (good-lawful F (table k q ns) g) ps
-  carries-extraction (projection es i) g ps cs = carries-merge es i ps cs
-  carries-extraction (filter e i) g ps cs = carries-fresh F (filter e i) (good-lawful F (filter e i) g) ps
-  carries-extraction (sort ks i) g ps cs = carries-fresh F (sort ks i) (good-lawful F (sort ks i) g) ps
-  carries-extraction (limit s c i) g ps cs = carries-fresh F (limit s c i) (good-lawful F (limit s c i) g) ps
-  carries-extraction (join k es l r) g ps cs = carries-fresh F (join k es l r) (good-lawful F (join k es l r) g) ps
-  carries-extraction (subquery_alias n i) g ps cs = carries-fresh F (subquery_alias n i) (good-lawful F (subquery_alias n i) g) ps
-  carries-extraction (union i is) g ps cs = carries-fresh F (union i is) (good-lawful F (union i is) g) ps
-  carries-extraction (aggregate gs ts i) g ps cs = carries-fresh F (aggregate gs ts i) (good-lawful F (aggregate gs ts i) g) ps
+  carries-extraction (table k q ns) g ps cs h = carries-fresh F (table k q ns) (good-lawful F (table k q ns) g) ps
+  carries-extraction (projection es i) g ps cs l = carries-merge es i ps cs l
+  carries-extraction (filter e i) g ps cs h = carries-fresh F (filter e i) (good-lawful F (filter e i) g) ps
+  carries-extraction (sort ks i) g ps cs h = carries-fresh F (sort ks i) (good-lawful F (sort ks i) g) ps
+  carries-extraction (limit s c i) g ps cs h = carries-fresh F (limit s c i) (good-lawful F (limit s c i) g) ps
+  carries-extraction (join k es l r) g ps cs h = carries-fresh F (join k es l r) (good-lawful F (join k es l r) g) ps
+  carries-extraction (subquery_alias n i) g ps cs h = carries-fresh F (subquery_alias n i) (good-lawful F (subquery_alias n i) g) ps
+  carries-extraction (union i is) g ps cs h = carries-fresh F (union i is) (good-lawful F (union i is) g) ps
+  carries-extraction (aggregate gs ts i) g ps cs h = carries-fresh F (aggregate gs ts i) (good-lawful F (aggregate gs ts i) g) ps
 
 pub extraction-good : (F : Functions) (P : Plan) → Good F P → (ps : List Pair) (cs : List Field) → Passed F (build_extraction_projection_impl F P ps cs) → Good F (build_extraction_projection_impl F P ps cs)
 unfolding build_extraction_projection_impl
@@ -298,7 +299,7 @@ abbrev pub IntoSound : Functions → Plan → Into → Type 0
 IntoSound F P into = (ps : List Pair) (cs : List Field) (whole : Bool) (level : ℕ) (n : Tally) → AllByRecursion (λ p. Known (fields_of F P) p.0) ps
     → Gives (λ R. Bears F R P ps) (into ps cs whole level n)
 
-unalias-known : (fs : List Field) (e : Expr) → Known fs e → Known fs (unalias e)
+pub unalias-known : (fs : List Field) (e : Expr) → Known fs e → Known fs (unalias e)
 unfolding unalias
 unalias-known fs (reference r) k = k
 unalias-known fs (literal v) k = k
@@ -309,19 +310,28 @@ pub pairs-all : (Q : Pair → Type 0) (s : Side) (ds : List Entry) → AllByRecu
 unfolding pairs_of
 pairs-all Q s ds h = All-map Q _ _ (all_keep _ _ ds h)
 
-pub extraction-bears : (F : Functions) (P : Plan) → Good F P → (level : ℕ) (ps : List Pair) (cs : List Field) (n : Tally) → Gives (λ R. Bears F R P ps) (build_extraction_projection F level P ps cs n)
+pub keep-with : {A : Type 0} (P Q : A → Type 0) (f : A → Bool) → ((x : A) → P x → T (f x) → Q x) → (xs : List A) → AllByRecursion P xs → AllByRecursion Q (keep f xs)
+unfolding keep
+keep-with P Q f g [] h = tt
+keep-with P Q f g (x ∷ xs) h = go (f x) (g x h.0) (keep-with P Q f g xs h.1)
+  where
+    go : (b : Bool) → (T b → Q x) → AllByRecursion Q (keep f xs) → AllByRecursion Q (cond b (x ∷ keep f xs) (keep f xs))
+    go true k a = (k tt, a)
+    go false k a = a
+
+pub extraction-bears : (F : Functions) (P : Plan) → Good F P → (level : ℕ) (ps : List Pair) (cs : List Field) (n : Tally) → AllByRecursion (λ p. Known (fields_of F P) p.0) ps → Gives (λ R. Bears F R P ps) (build_extraction_projection F level P ps cs n)
 unfolding build_extraction_projection
-extraction-bears F P g level [] cs n = record { good = g; carries = carries-none P }
-extraction-bears F P g level (d ∷ ds) cs n =
-    made-gives _ F (stage_of P) level (build_extraction_projection_impl F P (d ∷ ds) cs) _ (λ a. record { good = extraction-good F P g (d ∷ ds) cs a; carries = carries-extraction P g (d ∷ ds) cs })
+extraction-bears F P g level [] cs n k = record { good = g; carries = carries-none P }
+extraction-bears F P g level (d ∷ ds) cs n k =
+    made-gives _ F (stage_of P) level (build_extraction_projection_impl F P (d ∷ ds) cs) _ (λ a. record { good = extraction-good F P g (d ∷ ds) cs a; carries = carries-extraction P g (d ∷ ds) cs k })
 
 module _ (F : Functions) (P : Plan) (g : Good F P) (into : Into) (sound : IntoSound F P into) where
-  place-bears : (ps : List Pair) (cs : List Field) (new : Bool) (level : ℕ) (o : Outcome) → Gives (λ R. Bears F R P ps) o → Gives (λ R. Bears F R P ps) (or_in_place F P ps cs new level o)
+  place-bears : (ps : List Pair) (cs : List Field) (new : Bool) (level : ℕ) (o : Outcome) → AllByRecursion (λ p. Known (fields_of F P) p.0) ps → Gives (λ R. Bears F R P ps) o → Gives (λ R. Bears F R P ps) (or_in_place F P ps cs new level o)
   unfolding or_in_place
-  place-bears ps cs new level (built q n) h = h
-  place-bears ps cs true level (no_change n) h = extraction-bears F P g level ps cs n
-  place-bears ps cs false level (no_change n) h = tt
-  place-bears ps cs new level (refused x n) h = tt
+  place-bears ps cs new level (built q n) k h = h
+  place-bears ps cs true level (no_change n) k h = extraction-bears F P g level ps cs n k
+  place-bears ps cs false level (no_change n) k h = tt
+  place-bears ps cs new level (refused x n) k h = tt
 
   abbrev the_split : List Expr → ℕ → Split
   the_split es n = split_all F (find_sole_input (schema_columns (fields_of F P))) es (empty_extractor n)
@@ -370,5 +380,5 @@ module _ (F : Functions) (P : Plan) (g : Good F P) (into : Into) (sound : IntoSo
       go (d ∷ ds) e =
           let cs = needed_of one (the_split es n.next).store.needed in
           unless (the_split es n.next).store.full _ _ (then-gives (λ R. Bears F R P (d ∷ ds)) _ _ _
-          (place-bears (d ∷ ds) cs (the_split es n.next).store.new level _ (sound (d ∷ ds) cs (the_split es n.next).whole level _ (rw e at known-pairs)))
+          (place-bears (d ∷ ds) cs (the_split es n.next).store.new level _ (rw e at known-pairs) (sound (d ∷ ds) cs (the_split es n.next).whole level _ (rw e at known-pairs)))
           (λ R m b. recover-answers es n.next k level R m (rw e b)))

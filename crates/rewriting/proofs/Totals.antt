@@ -27,7 +27,7 @@ use Rattle.rows.specs.Standing.{Good, Known, Knowns, Lawful, Same, Stands, pick,
 use Rattle.rows.specs.Worlds.{Fitting, Row}
 use Rattle.rewriting.proofs.Carries.{Holds}
 use Rattle.rewriting.proofs.Equals.{fields-eq}
-use Rattle.rewriting.proofs.Extracts.{Carried, Keeping, extracted-placed, filter-keeps, here-held, join-keeps, sort-keeps, swaps-mono, when-extractable, when-new}
+use Rattle.rewriting.proofs.Extracts.{Carried, Keeping, extracted-placed, filter-keeps, here-held, here-known, join-keeps, sort-keeps, swaps-mono, when-extractable, when-new}
 use Rattle.rewriting.proofs.Made.{aggregate-known, every-all, good-lawful, made-gives, then-gives, remade-gives}
 use Rattle.rewriting.proofs.Splits.{Here, entry_here}
 use Rattle.rewriting.proofs.Swaps.{SwapAll, Swaps, both, same_nil, swap-mono}
@@ -255,7 +255,7 @@ aggregate-keeps F gs ts i n g =
     let b = totals-after F (fields_of F i) ts w.1 (every-all (is_total F) ts g.2) k.1 in
     let h : AllByRecursion (Here (fields_of F i)) v.1.entries = b.1.keeps (a.1.keeps (unfold empty_extractor in tt)) in
     let wg = swaps-mono _ _ (held-longer _ _ b.1.longer) gs w.0 a.0 in
-    when-extractable (Keeping F (aggregate gs ts i)) F _ n _ (when-new (Keeping F (aggregate gs ts i)) v.1 _ _ _ (then-gives _ (Keeping F (aggregate gs ts i)) _ _ (extracted-placed F i g.1 _ _ _)
+    when-extractable (Keeping F (aggregate gs ts i)) F _ n _ (when-new (Keeping F (aggregate gs ts i)) v.1 _ _ _ (then-gives _ (Keeping F (aggregate gs ts i)) _ _ (extracted-placed F i g.1 _ _ _ (here-known (fields_of F i) v.1.entries h))
     (λ r m p. rebuilt-count F gs ts w.0 v.0 i r m p.bears.good (heads-total F _ ts v.0 b.0 g.2) (swaps-long _ gs w.0 wg) (heads-long _ ts v.0 b.0)
     (λ kr. aggregate-rows p.bears.carries.stands gs ts w.0 v.0 (swaps-mono _ _ (here-held v.1 h p.bears.carries) gs w.0 wg)
     (heads-mono _ _ (here-held v.1 h p.bears.carries) ts v.0 b.0) (aggregate-known gs ts i g.0 g.1) kr))))

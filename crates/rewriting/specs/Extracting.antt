@@ -8,7 +8,6 @@
 --     extract_from_plan F p n      extract, of the node p, where n has the first number for an alias
 use Rattle.std.specs.Prelude.{ℕ, Bool, true, false, cond, ◌&&◌, List, [], ◌∷◌, ◌++◌, map, length, Some, None, Option, ◌==◌, slice_index_or}
 use Rattle.plan.specs.Terms.{Field, Expr, Exprs, same_field, same_expr}
-use Rattle.plan.specs.Terms.Literal.{null as null_literal}
 use Rattle.plan.specs.Terms.Expr.{literal, reference, alias, call}
 use Rattle.plan.specs.Terms.Exprs.{none, more}
 use Rattle.plan.specs.Functions.{Functions}
@@ -55,11 +54,11 @@ remade F stage level p n = made F stage level p (charged (list_space (expression
 abbrev pub ReplaceMap : Type 0
 ReplaceMap = List Field × List Expr
 
--- replace_cols_by_name, but by the field that a reference resolves to; one that resolves to none means nothing
+-- replace_cols_by_name, but by the field that a reference resolves to; one that resolves to none stays
 unfoldable mutual
   pub replace_cols_by_name : ReplaceMap → Expr → Expr
   replace_cols_by_name m (literal v) = literal v
-  replace_cols_by_name m (reference r) = slice_index_or m.1 (seek r m.0) (literal null_literal)
+  replace_cols_by_name m (reference r) = slice_index_or m.1 (seek r m.0) (reference r)
   replace_cols_by_name m (alias e f) = alias (replace_cols_by_name m e) f
   replace_cols_by_name m (call n es) = call n (replace_cols_by_names m es)
 

@@ -34,7 +34,7 @@ use Rattle.rows.specs.Rows.{value_in}
 use Rattle.rows.specs.Standing.{refs, up_from}
 use Rattle.rewriting.specs.Generated.{digits_onto, generated, highest, list_names}
 use Rattle.rewriting.specs.Outlay.{nothing, start_at}
-use Rattle.rewriting.specs.Extracting.{Outcome, built, no_change, refused, extract_from_plan}
+use Rattle.rewriting.specs.Extracting.{Outcome, built, no_change, refused, extract_from_plan, resolved_in}
 use Rattle.rewriting.specs.Pushing.{push}
 
 -- a number for each kind and direction
@@ -294,10 +294,11 @@ wide_refs n = refs (map (column_of (codes "w")) (wide_names n))
 abbrev pub wide_kind : Expr
 wide_kind = kind_of (column_of (codes "w") (codes "c00"))
 
--- 64 fields leave no place for a helper column; 63 do
+-- 64 fields leave no place for a helper column, be it over a Table or merged into a Projection; 63 do
 unfoldable pub plan_seven : Bool
 plan_seven =
     extract_gives (filter (two 1 wide_kind spot) (wide 64)) (refused (fault Limited Extraction 0) (start_at first))
+    && extract_gives (filter (two 1 wide_kind spot) (projection (wide_refs 64) (wide 64))) (refused (fault Limited Merge 0) (start_at first))
     && extract_gives (filter (two 1 wide_kind spot) (wide 63))
     (built (projection (wide_refs 63) (filter (two 1 (reference X) spot) (projection (alias wide_kind X ∷ wide_refs 63) (wide 63)))) (start_at (suc first)))
 
@@ -498,6 +499,10 @@ held_above =
     push_after (projection (alias missing (named (codes "m")) ∷ alias (reference X) X ∷ []) (join Left [] log (projection (reference clip_event ∷ alias (kind_of clip_event) X ∷ []) clip)))
     (refused (fault Lawful Extraction 0) (start_at first))
 
+-- what resolves to no field of the Projection is left as it is
+unfoldable pub left_alone : Bool
+left_alone = same_expr (resolved_in functions (reference event ∷ []) (two 1 E (reference start))) (two 1 E (reference start))
+
 -- equal expressions get one alias; 0.0 and -0.0 are not equal
 abbrev pub zero_of : ℕ → Expr
 zero_of bits = two 0 (reference event) (literal (real (from_bits binary64 bits)))
@@ -564,5 +569,5 @@ plan_eight = is_null_value (value_of (two 2 (number 9223372036854775807) (number
 unfoldable pub worked_plans_hold : Bool
 worked_plans_hold =
     every (λ t. t) (
-    plan_one ∷ plan_two ∷ plan_three ∷ plan_four ∷ plan_five ∷ plan_six ∷ plan_seven ∷ plan_eight ∷ no_number ∷ two_limits ∷ renamed ∷ over_union ∷ both_sides ∷ by_place_total ∷ ambiguous ∷ deeper ∷ taken_name ∷ through_recovery ∷ trial_number ∷ four_for_three ∷ uneven_places ∷ flat_name ∷ by_field ∷ qualifies ∷ same_alias ∷ left_out ∷ untried ∷ sorted ∷ plain_needed ∷ under_sort ∷ semi ∷ other_alias ∷ too_high ∷ hidden_alias ∷ held_above ∷ twice ∷ under_prefix ∷ numbers ∷ spent ∷ cheap ∷ []
+    plan_one ∷ plan_two ∷ plan_three ∷ plan_four ∷ plan_five ∷ plan_six ∷ plan_seven ∷ plan_eight ∷ no_number ∷ two_limits ∷ renamed ∷ over_union ∷ both_sides ∷ by_place_total ∷ ambiguous ∷ deeper ∷ taken_name ∷ through_recovery ∷ trial_number ∷ four_for_three ∷ uneven_places ∷ flat_name ∷ by_field ∷ qualifies ∷ same_alias ∷ left_out ∷ untried ∷ sorted ∷ plain_needed ∷ under_sort ∷ semi ∷ other_alias ∷ too_high ∷ hidden_alias ∷ held_above ∷ left_alone ∷ twice ∷ under_prefix ∷ numbers ∷ spent ∷ cheap ∷ []
     )
