@@ -1,6 +1,6 @@
 -- Drafts as the text grows, and what storing them leaves.
-use Rattle.std.proofs.Common.{◌≡◌, ℕ, ◌+◌, ◌-◌, ◌<◌, ◌≤◌, true, ltb, List, [], ◌∷◌, ◌++◌, map, length, get_or, take, drop, sym, refl, ap, ◌∙◌, subst, ap₂, arith, length-append, Some, None, Option}
-use Rattle.std.proofs.lemmas.List.{append-nil, append_assoc, map_push, take_more, take-take, drop-take, drop-drop}
+use Rattle.std.proofs.Common.{◌≡◌, ℕ, ◌+◌, ◌-◌, ◌<◌, ◌≤◌, true, ltb, List, [], ◌∷◌, ◌++◌, map, length, get_or, take, drop, sym, refl, ap, ◌∙◌, subst, ap₂, arith, length-append, length-take, Some, None, Option}
+use Rattle.std.proofs.lemmas.List.{append-nil, append_assoc, map_push, take_more, take-take, drop-take, drop-drop, length-map, take_all}
 use Rattle.std.proofs.lemmas.List.Sums.{sum_by-cons, sum_by_push, sum_by_more, sum_by-take-le}
 use Rattle.std.proofs.lemmas.Bool.{and_parts, and_from, leb-true}
 use Rattle.table.specs.Contents.{part}
@@ -10,7 +10,7 @@ use Rattle.plan.specs.Rendering.{rendered}
 use Rattle.plan.specs.Fields.{every}
 use Rattle.plan.specs.Model.{expr_in}
 use Rattle.terms.specs.Build.{width_of}
-use Rattle.terms.specs.Spans.{stored_field, stored_in}
+use Rattle.terms.specs.Spans.{stored_field, stored_in, qualifier_at, qualifier_in}
 use Rattle.names.specs.Spans.{word, span_in}
 use Rattle.terms.specs.Views.{View, grown}
 use Rattle.terms.specs.declared.node.Entry.{Entry}
@@ -18,7 +18,7 @@ use Rattle.names.specs.declared.parts.Span.{Span}
 use Rattle.terms.specs.declared.node.StoredField.{StoredField}
 use Rattle.terms.proofs.Facts.{grown-twice}
 use Rattle.terms.proofs.Frames.{every-at, every_append, span_grow, stored-grow}
-use Rattle.draft.specs.Drafts.{word_at, word_in, owner_at, owner_in, draft_field, draft_in, word_bytes, field_bytes, draft_bytes, LentIn, WordAs, StoredAs, StoredAll}
+use Rattle.draft.specs.Drafts.{word_at, word_in, owner_at, owner_in, draft_field, draft_in, word_bytes, field_bytes, draft_bytes, stored_qualifier, LentIn, WordAs, StoredAs, StoredAll}
 use Rattle.draft.specs.declared.storing.Lent.{Lent}
 use Rattle.draft.specs.declared.word.Word.{Word}
 use Rattle.draft.specs.declared.word.Word.TheVariants.{Stored, Owner, Given, Rendered}
@@ -137,3 +137,38 @@ module _ (v w : View) (l : Lent) (ds : List DraftField) (i : ℕ) (fs fs' : List
       let a = draft-grown v w k.bytes (word v.bytes l.owner) (word v.bytes l.given) (get_or ds i x) k.view (every-at (draft_in v (word v.bytes l.owner) (word v.bytes l.given)) ds i x lt h) in
       let n = ap (λ y. length y.bytes) k.view in
       omega (arith, room, n, length-append v.bytes k.bytes, k.used, a.2, sum_by_more (field_bytes v) ds i x lt, sum_by-take-le (field_bytes v) ds (i + 1))
+
+-- a qualifier as it is stored
+qualifier-stored : (v w : View) (bs : List ℕ) (o : Span) (q : Option Relation) → w ≡ grown v [] bs [] → span_in v.bytes o ≡ true → owner_in v q ≡ true
+    → (qualifier_at w.bytes (stored_qualifier o q) ≡ owner_at v (word v.bytes o) q) × (qualifier_in w.bytes (stored_qualifier o q) ≡ true)
+qualifier-stored v w bs o None e h k = (refl, refl)
+qualifier-stored v w bs o (Some (Of s)) e h k = let a = span-grown v w bs s e k in (ap qualified a.0, a.1)
+qualifier-stored v w bs o (Some OfOwner) e h k = let a = span-grown v w bs o e h in (ap qualified a.0, a.1)
+
+pub field-stored : (v w : View) (l : Lent) (d : DraftField) (s : Span) (q : Option Span) → LentIn v.bytes l → draft_in v (word v.bytes l.owner) (word v.bytes l.given) d ≡ true → WordAs v l d.name w s → q ≡ stored_qualifier l.owner d.qualifier
+    → StoredAs v l d w (record { qualifier = q; name = s })
+field-stored v w l d s q p h k e =
+    let i = and_parts (word_in v (word v.bytes l.owner) (word v.bytes l.given) d.name) (owner_in v d.qualifier) h in
+    let a = qualifier-stored v w k.bytes l.owner d.qualifier k.view p.owner i.1 in
+    record {
+      bytes = k.bytes;
+      view = k.view;
+      used = k.used;
+      field = ap₂ (λ x y. record { qualifier = x; name = y }) (ap (qualifier_at w.bytes) e ∙ a.0) k.is;
+      inside = and_from _ _ k.inside (ap (qualifier_in w.bytes) e ∙ a.1);
+    }
+
+-- a loop over a draft, after i fields: the next field is inside, and how many fields there are
+module _ (v w : View) (l : Lent) (ds : List DraftField) (i : ℕ) (fs fs' : List StoredField) (k : StoredAll v (word v.bytes l.owner) (word v.bytes l.given) (take i ds) fs w fs') where
+  pub stored-next : (x : DraftField) → i < length ds → LentIn v.bytes l → every (draft_in v (word v.bytes l.owner) (word v.bytes l.given)) ds ≡ true → draft_in w (word w.bytes l.owner) (word w.bytes l.given) (get_or ds i x) ≡ true
+  stored-next x lt p h =
+      let d = get_or ds i x in
+      ap₂ (λ a b. draft_in w a b d) (span-grown v w k.bytes l.owner k.view p.owner).0 (span-grown v w k.bytes l.given k.view p.given).0
+      ∙ (draft-grown v w k.bytes (word v.bytes l.owner) (word v.bytes l.given) d k.view (every-at (draft_in v (word v.bytes l.owner) (word v.bytes l.given)) ds i x lt h)).1
+
+  pub stored-count : i ≤ length ds → length fs' ≡ length fs + i
+  stored-count le =
+      omega (arith, ap length k.grew, length-append fs k.new, length-map k.new (stored_field w.bytes), ap length k.fields, length-map (take i ds) (draft_field v (word v.bytes l.owner) (word v.bytes l.given)), length-take i ds)
+
+  pub stored-end : length ds ≤ i → StoredAll v (word v.bytes l.owner) (word v.bytes l.given) ds fs w fs'
+  stored-end le = subst (λ x. StoredAll v (word v.bytes l.owner) (word v.bytes l.given) x fs w fs') (take_all i ds le) k

@@ -3,6 +3,7 @@ ghost use Rattle.std.specs.Prelude.{◌≡◌, ◌+◌, ◌<◌, ◌≤◌, true
 ghost use Rattle.draft.specs.Drafts.{LentIn, StoredAll, StoredAs, WordAs, draft_bytes, draft_in, field_bytes, stored_qualifier, word_bytes, word_in};
 ghost use Rattle.plan.specs.Fields.{every};
 ghost use Rattle.plan.specs.Rendering.{rendered};
+ghost use Rattle.terms.specs.Begun.{TermsBegin};
 ghost use Rattle.terms.specs.Build.{width_of};
 ghost use Rattle.names.specs.Spans.{span_in, word as word_of};
 ghost use Rattle.terms.specs.Views.{count, grown, tree_of, view_of};
@@ -27,6 +28,7 @@ fn write_rendered(terms: &mut Terms, e: ExprId) -> Span
     ensures view { view_of terms.new ≡ grown (view_of terms.old) [] (rendered (view_of terms.old).functions (tree_of terms.old e.0)) [] }
     ensures inside { span_in (view_of terms.new).bytes result ≡ true }
     ensures word { word_of (view_of terms.new).bytes result ≡ rendered (view_of terms.old).functions (tree_of terms.old e.0) }
+    ensures begins { TermsBegin terms.old terms.new }
 {
     let mut name = Table::new(0);
     terms.render(e, &mut name);
@@ -38,7 +40,8 @@ fn store_word(terms: &mut Terms, lent: Lent, word: Word) -> Span
     requires lent { LentIn (view_of terms.old).bytes lent }
     requires inside { word_in (view_of terms.old) (word_of (view_of terms.old).bytes lent.owner) (word_of (view_of terms.old).bytes lent.given) word ≡ true }
     requires room { length (view_of terms.old).bytes + word_bytes (view_of terms.old) word ≤ 16384 }
-    ensures { WordAs (view_of terms.old) lent word (view_of terms.new) result }
+    ensures word { WordAs (view_of terms.old) lent word (view_of terms.new) result }
+    ensures begins { TermsBegin terms.old terms.new }
 {
     match word {
         Word::Stored(s) => s,
@@ -64,7 +67,8 @@ fn store_field(terms: &mut Terms, lent: Lent, field: DraftField) -> StoredField
     requires lent { LentIn (view_of terms.old).bytes lent }
     requires inside { draft_in (view_of terms.old) (word_of (view_of terms.old).bytes lent.owner) (word_of (view_of terms.old).bytes lent.given) field ≡ true }
     requires room { length (view_of terms.old).bytes + field_bytes (view_of terms.old) field ≤ 16384 }
-    ensures { StoredAs (view_of terms.old) lent field (view_of terms.new) result }
+    ensures field { StoredAs (view_of terms.old) lent field (view_of terms.new) result }
+    ensures begins { TermsBegin terms.old terms.new }
 {
     let name = store_word(terms, lent, field.name);
     StoredField {
@@ -84,7 +88,8 @@ pub fn store(
     requires inside { every (draft_in (view_of terms.old) (word_of (view_of terms.old).bytes lent.owner) (word_of (view_of terms.old).bytes lent.given)) draft.now ≡ true }
     requires fields { length fields.old + length draft.now ≤ 2048 }
     requires bytes { length (view_of terms.old).bytes + draft_bytes (view_of terms.old) draft.now ≤ 16384 }
-    ensures { StoredAll (view_of terms.old) (word_of (view_of terms.old).bytes lent.owner) (word_of (view_of terms.old).bytes lent.given) draft.now fields.old (view_of terms.new) fields.new }
+    ensures all { StoredAll (view_of terms.old) (word_of (view_of terms.old).bytes lent.owner) (word_of (view_of terms.old).bytes lent.given) draft.now fields.old (view_of terms.new) fields.new }
+    ensures begins { TermsBegin terms.old terms.new }
 {
     // A `for`: `push_each` takes an `Fn`, and storing a field writes the text.
     for field in draft {

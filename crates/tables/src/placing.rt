@@ -3,6 +3,7 @@ ghost use Rattle.std.specs.Prelude.{◌≡◌, ◌+◌, ◌≤◌, true, map, le
 ghost use Rattle.tables.specs.Placing.{PlacedAs, namelessly};
 ghost use Rattle.tables.specs.Listing.{ListedAs};
 ghost use Rattle.tables.specs.Making.{bounded, bytes_for, entries_for, present_in};
+ghost use Rattle.terms.specs.Begun.{TermsBegin};
 ghost use Rattle.terms.specs.Views.{view_of};
 
 use crate::node::{NewNode, PlanNode, Run};
@@ -22,7 +23,8 @@ pub struct Placed {
 /// Puts a list into the list table.
 fn put<T: Listed>(terms: &mut Terms, items: &[T]) -> Run
     requires { length (view_of terms.old).entries + length items.now ≤ 2048 }
-    ensures { ListedAs (view_of terms.old) (map T.entry items.now) result (view_of terms.new) }
+    ensures listed { ListedAs (view_of terms.old) (map T.entry items.now) result (view_of terms.new) }
+    ensures begins { TermsBegin terms.old terms.new }
 {
     terms.list(items)
 }
@@ -50,7 +52,8 @@ pub fn place(terms: &mut Terms, node: NewNode<'_>, number: PlanId) -> Placed
     requires bounded { bounded node ≡ true }
     requires lists { length (view_of terms.old).entries + entries_for node ≤ 2048 }
     requires text { length (view_of terms.old).bytes + bytes_for node ≤ 16384 }
-    ensures { PlacedAs (view_of terms.old) number.0 node.entry result (view_of terms.new) }
+    ensures placed { PlacedAs (view_of terms.old) number.0 node.entry result (view_of terms.new) }
+    ensures begins { TermsBegin terms.old terms.new }
 {
     match node {
         NewNode::Table { qualifier, names } => {

@@ -1,5 +1,5 @@
 -- Tables that begin with others.
-use Rattle.std.proofs.Common.{List, [], ◌++◌, sym, ap, ◌∙◌}
+use Rattle.std.proofs.Common.{List, [], ◌++◌, sym, refl, ap, ◌∙◌}
 use Rattle.std.proofs.lemmas.List.{append-nil, append_assoc}
 use Rattle.terms.specs.Begun.{Begins, LexiconBegins, TermsBegin}
 use Rattle.terms.specs.declared.lexicon.Lexicon.{Lexicon}
@@ -13,6 +13,9 @@ begins-then xs ys zs a b = record { more = a.more ++ b.more; is = b.is ∙ ap (�
 
 pub lexicon-then : (x y z : Lexicon) → LexiconBegins x y → LexiconBegins y z → LexiconBegins x z
 lexicon-then x y z a b = record { functions = b.functions ∙ a.functions; text = begins-then x.text y.text z.text a.text b.text }
+
+pub terms-at-once : (t : Terms) → TermsBegin t t
+terms-at-once t = record { lexicon = record { functions = refl; text = at-once t.lexicon.text }; exprs = at-once t.exprs; entries = at-once t.entries }
 
 pub terms-then : (s t u : Terms) → TermsBegin s t → TermsBegin t u → TermsBegin s u
 terms-then s t u a b = record {

@@ -1,5 +1,6 @@
 //! How a node is made: the only way into the plan table.
 ghost use Rattle.std.specs.Prelude.{◌≡◌, true};
+ghost use Rattle.tables.specs.Begun.{TablesBegin};
 ghost use Rattle.tables.specs.Holding.{model_of};
 ghost use Rattle.tables.specs.Making.{NodeMade, NodeStored, bounded, outlay_for, present, tree_for, well_named};
 ghost use Rattle.tables.specs.Holding.{view_in};
@@ -25,7 +26,8 @@ impl Tables {
         requires named { well_named node ≡ true }
         requires limited { limited (view_in self.old).functions (tree_for self.old node) ≡ true }
         requires room { fits (model_of self.old).used (outlay_for self.old node) ≡ true }
-        ensures { NodeStored self.old node.entry result.0 (model_of self.new) }
+        ensures stored { NodeStored self.old node.entry result.0 (model_of self.new) }
+        ensures begins { TablesBegin self.old self.new }
     {
         let number = PlanId(self.plans.len() as u32);
         let asked = Asked { tables: self, node };
@@ -56,7 +58,8 @@ impl Tables {
         requires present { present self.old node ≡ true }
         requires bounded { bounded node ≡ true }
         requires named { well_named node ≡ true }
-        ensures { NodeMade self.old node.entry result (model_of self.new) }
+        ensures made { NodeMade self.old node.entry result (model_of self.new) }
+        ensures begins { TablesBegin self.old self.new }
     {
         let asked = Asked { tables: self, node };
         ask(asked.is_resolved(), Question::Resolved)?;

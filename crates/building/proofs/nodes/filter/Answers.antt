@@ -11,4 +11,4 @@ returns c =
     plan-answers t (Filter c.args.input c.args.predicate) (make_filter c.args.input.0 c.args.predicate.0) ((Present, _) ∷ (Placed, _) ∷ [])
     (record { asks = refl; own_first = refl; exprs = refl; plans = refl; inputs = refl; costs = refl; number = refl })
     (sym c.has_expr.ensures ∙ c.in_ok-ask.ensures, (ap not (sym c.is_total.ensures) ∙ c.in_ok-ask-2.ensures, tt))
-    c.make.result _ c.make.ensures
+    c.make.result _ c.make.ensures.made

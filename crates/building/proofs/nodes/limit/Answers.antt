@@ -11,4 +11,4 @@ returns c =
     plan-answers t (Limit c.args.input c.args.skip c.args.count) (make_limit c.args.input.0 c.args.skip c.args.count) ((Present, _) ∷ [])
     (record { asks = refl; own_first = refl; exprs = refl; plans = refl; inputs = refl; costs = refl; number = refl })
     (sym c.has.ensures ∙ c.in_ok-ask.ensures, tt)
-    c.make.result _ c.make.ensures
+    c.make.result _ c.make.ensures.made

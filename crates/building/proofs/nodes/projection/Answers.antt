@@ -27,4 +27,4 @@ returns c =
     (record { asks = refl; own_first = refl; exprs = refl; plans = refl; inputs = refl; costs = ap (λ k. node_outlay (view_in t).functions (tree_for t (Projection c.args.input c.args.list)) k 0) (length-map c.args.list.now (λ e. e.0)); number = refl })
     (sym c.has_list.ensures ∙ c.in_ok-ask.ensures, (ap (between 1 64) (length-map c.args.list.now (λ e. e.0)) ∙ sym c.is_count.ensures ∙ c.in_ok-ask-2.ensures, (ap not (sym c.any_total.ensures) ∙ c.in_ok-ask-3.ensures, tt)))
     c.make.result _
-    c.make.ensures
+    c.make.ensures.made

@@ -41,4 +41,4 @@ returns c =
     (record { asks = refl; own_first = refl; exprs = refl; plans = refl; inputs = refl; costs = ap₂ (λ g u. node_outlay (view_in t).functions (tree_for t n) (g + u) 0) lg lu; number = refl })
     (sym c.has_lists.ensures ∙ c.in_ok-ask.ensures, (ap₂ (λ g u. (leb g 16 && leb u 16) && ltb 0 (g + u)) lg lu ∙ sym c.are_few.ensures ∙ c.in_ok-ask-2.ensures, (sym c.are_placed.ensures ∙ c.in_ok-ask-3.ensures, tt)))
     c.make.result _
-    c.make.ensures
+    c.make.ensures.made

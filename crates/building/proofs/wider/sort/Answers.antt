@@ -26,4 +26,4 @@ returns c =
     (sort-makes t c.args.input c.as_slice.result ks (c.as_slice.ensures ∙ c.in_ok-given.ensures.known))
     (sym c.has_sorted.ensures ∙ c.in_ok-ask.ensures, (and_from _ _ few (sym c.in_ok-given.ensures.all), (ap not (sym c.any_key_total.ensures) ∙ c.in_ok-ask-3.ensures, tt)))
     c.make.result _
-    c.make.ensures
+    c.make.ensures.made

@@ -30,4 +30,4 @@ returns c =
     (record { asks = refl; own_first = refl; exprs = refl; plans = refl; inputs = refl; costs = ap (λ k. node_outlay (view_in t).functions (tree_for t (Union c.args.inputs)) k 0) (length-map ps (λ p. p.0)); number = refl })
     (sym c.has_inputs.ensures ∙ c.in_ok-ask.ensures, (sym c.are_alike.ensures ∙ c.in_ok-ask-2.ensures, tt))
     c.make.result _
-    c.make.ensures
+    c.make.ensures.made

@@ -8,8 +8,8 @@ use Rattle.draft.specs.declared.word.Word.TheVariants.{Given}
 use Rattle.draft.proofs.Keeping.{word_none, given-part}
 use Rattle.draft.proofs.storing.store_word.Goals as goal
 
-pub returns-in-Given : goal.returns-in-Given
-returns-in-Given c =
+pub returns-in-Given-clause-word : goal.returns-in-Given-clause-word
+returns-in-Given-clause-word c =
     let v = view_of c.args.terms.now in
     let l = c.args.lent in
     let s = c.in-Given.s in

@@ -6,8 +6,8 @@ use Rattle.table.proofs.Parts.{part-added}
 use Rattle.terms.specs.Views.{view_of}
 use Rattle.tables.proofs.placing.put.Goals as goal
 
-pub returns : goal.returns
-returns g c =
+pub returns-clause-listed : goal.returns-clause-listed
+returns-clause-listed g c =
     let v = view_of c.args.terms.now in
     let w = view_of c.list.new.self in
     let es = map g.T.Listed.entry c.args.items.now in

@@ -49,7 +49,7 @@ returns-in-Projection c =
 pub returns-in-Filter : goal.returns-in-Filter
 returns-in-Filter c =
     single c.args.self.now c.args.p.0 c.args.position c.args.input c.record_of.result c.record_of.ensures c.requires.position _ _ _ c.in-Filter.is refl refl _ _
-    (made-anew c.args.self.now (Filter c.args.input c.in-Filter.predicate) _ _ tt refl refl c.make.result _ c.make.ensures)
+    (made-anew c.args.self.now (Filter c.args.input c.in-Filter.predicate) _ _ tt refl refl c.make.result _ c.make.ensures.made)
 
 pub returns-in-Sort : goal.returns-in-Sort
 returns-in-Sort c =
@@ -58,7 +58,7 @@ returns-in-Sort c =
 pub returns-in-Limit : goal.returns-in-Limit
 returns-in-Limit c =
     single c.args.self.now c.args.p.0 c.args.position c.args.input c.record_of.result c.record_of.ensures c.requires.position _ _ _ c.in-Limit.is refl refl _ _
-    (made-anew c.args.self.now (Limit c.args.input c.in-Limit.skip c.in-Limit.count) _ _ tt refl refl c.make-in-Limit.result _ c.make-in-Limit.ensures)
+    (made-anew c.args.self.now (Limit c.args.input c.in-Limit.skip c.in-Limit.count) _ _ tt refl refl c.make-in-Limit.result _ c.make-in-Limit.ensures.made)
 
 pub returns-in-Aggregate : goal.returns-in-Aggregate
 returns-in-Aggregate c =

@@ -40,4 +40,4 @@ returns c =
     let a = c.as_slice.ensures ∙ c.copied-by.ensures ∙ ap (map expr_of) c.entries.ensures in
     let b = c.as_slice-2.ensures ∙ c.copied-of.ensures ∙ ap (map expr_of) c.entries-2.ensures in
     made-anew t (Aggregate c.args.input c.as_slice.result c.as_slice-2.result) _ _ tt
-    (ap₂ (λ g u. aggregate g u (tree_in t c.args.input.0)) (exprs-copied (view_in t) c.args.groups _ a) (exprs-copied (view_in t) c.args.totals _ b)) refl c.make.result _ c.make.ensures
+    (ap₂ (λ g u. aggregate g u (tree_in t c.args.input.0)) (exprs-copied (view_in t) c.args.groups _ a) (exprs-copied (view_in t) c.args.totals _ b)) refl c.make.result _ c.make.ensures.made

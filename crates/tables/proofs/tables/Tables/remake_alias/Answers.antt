@@ -20,4 +20,4 @@ pub returns : goal.returns
 returns c =
     let t = c.args.self.now in
     made-anew t (SubqueryAlias c.args.input c.as_slice.result) _ _ tt
-    (ap (λ n. subquery_alias n (tree_in t c.args.input.0)) (c.as_slice.ensures ∙ c.copy_name-own.ensures ∙ c.word.ensures)) refl c.make.result _ c.make.ensures
+    (ap (λ n. subquery_alias n (tree_in t c.args.input.0)) (c.as_slice.ensures ∙ c.copy_name-own.ensures ∙ c.word.ensures)) refl c.make.result _ c.make.ensures.made

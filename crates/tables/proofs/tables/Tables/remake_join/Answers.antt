@@ -31,4 +31,4 @@ returns c =
     let t = c.args.self.now in
     let e = c.as_slice.ensures ∙ c.copied-own.ensures ∙ ap (map expr_of) c.entries.ensures in
     made-anew t (Join c.args.kind c.args.left c.args.right c.as_slice.result) _ _ tt
-    (ap (λ l. join c.args.kind l (tree_in t c.args.left.0) (tree_in t c.args.right.0)) (exprs-copied (view_in t) c.args.on _ e)) refl c.make.result _ c.make.ensures
+    (ap (λ l. join c.args.kind l (tree_in t c.args.left.0) (tree_in t c.args.right.0)) (exprs-copied (view_in t) c.args.on _ e)) refl c.make.result _ c.make.ensures.made

@@ -30,4 +30,4 @@ pub returns : goal.returns
 returns c =
     let t = c.args.self.now in
     let e = c.as_slice.ensures ∙ c.copied-own.ensures ∙ ap (map key_of) c.entries.ensures in
-    made-anew t (Sort c.args.input c.as_slice.result) _ _ tt (ap (λ l. sort l (tree_in t c.args.input.0)) (keys-copied (view_in t) c.args.keys _ e)) refl c.make.result _ c.make.ensures
+    made-anew t (Sort c.args.input c.as_slice.result) _ _ tt (ap (λ l. sort l (tree_in t c.args.input.0)) (keys-copied (view_in t) c.args.keys _ e)) refl c.make.result _ c.make.ensures.made

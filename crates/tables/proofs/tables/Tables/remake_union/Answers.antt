@@ -48,4 +48,4 @@ returns c =
     let t = c.args.self.now in
     let l = c.args.inputs in
     let x = lent (view_in t) l c.copied-own.result _ c.args.position c.args.input (c.copied-own.ensures ∙ ap (map input_of) c.entries.ensures) c.requires.run (c.as_slice.ensures ∙ c.set.ensures) in
-    made-anew t (Union c.as_slice.result) _ _ tt (ap (λ ns. union_of (plans_in (trees_in t) ns)) x.0) x.0 c.make.result _ c.make.ensures
+    made-anew t (Union c.as_slice.result) _ _ tt (ap (λ ns. union_of (plans_in (trees_in t) ns)) x.0) x.0 c.make.result _ c.make.ensures.made
