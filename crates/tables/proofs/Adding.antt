@@ -35,7 +35,7 @@ use Rattle.tables.proofs.PlanFrames.{node-grow, accepted-grow, inputs-grow, all-
 use Rattle.tables.proofs.PlanFacts.{PlanFacts, facts-grow, facts-push, nodes-push}
 use Rattle.tables.proofs.Held.{facts-in, counted}
 use Rattle.tables.proofs.Answers.{space-same}
-use Rattle.tables.proofs.Draftings.{ShownDraft, names-short}
+use Rattle.tables.specs.Drafting.{ShownDraft}
 
 pub own-bytes : (n : NewNode) → length (own_text n) ≡ bytes_for n
 own-bytes (Table q ns) = length-append q.now ns.now
@@ -59,20 +59,6 @@ own-entries (Aggregate i gs us) =
 own-entries (Join k l r cs) = length-map cs.now Expression
 own-entries (SubqueryAlias i n) = refl
 own-entries (Union is) = length-map is.now Input
-
--- lent names are short
-pub lent-short : (n : NewNode) → well_named n ≡ true → bounded n ≡ true → (length (lent_owner n) ≤ 131072) × (length (lent_given n) ≤ 131072)
-lent-short (Table q ns) h b =
-    let p = and_parts (good_name q.now) (every good_name (parts ns.now)) h in
-    (omega (arith, name-short q.now p.0), omega (arith, names-short ns.now p.1 (leb-true _ _ b)))
-lent-short (Projection i l) h b = (omega arith, omega arith)
-lent-short (Filter i e) h b = (omega arith, omega arith)
-lent-short (Sort i ks) h b = (omega arith, omega arith)
-lent-short (Limit i s c) h b = (omega arith, omega arith)
-lent-short (Aggregate i gs us) h b = (omega arith, omega arith)
-lent-short (Join k l r cs) h b = (omega arith, omega arith)
-lent-short (SubqueryAlias i n) h b = (omega (arith, name-short n.now h), omega arith)
-lent-short (Union is) h b = (omega arith, omega arith)
 
 -- what room for so much says of each table
 pub fits-parts : (a o : Space) → fits a o ≡ true

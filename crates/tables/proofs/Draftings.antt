@@ -2,7 +2,7 @@
 use Rattle.std.proofs.Common.{◌≡◌, ℕ, ◌+◌, ◌*◌, ◌<◌, ◌≤◌, Bool, true, false, cond, eqb, List, [], ◌∷◌, ◌++◌, map, length, get_or, sum_by, sym, refl, ap, ◌∙◌, subst, ap₂, arith}
 use Rattle.std.proofs.lemmas.List.{map-append, length-map}
 use Rattle.std.proofs.lemmas.List.Sums.{sum_by-append}
-use Rattle.std.proofs.lemmas.Bool.{and_parts, ltb-true}
+use Rattle.std.proofs.lemmas.Bool.{and_parts, ltb-true, leb-true}
 use Rattle.plan.specs.Names.{Name, good_name}
 use Rattle.plan.specs.Terms.{Field, Expr}
 use Rattle.plan.specs.Functions.{Functions}
@@ -24,16 +24,12 @@ use Rattle.draft.specs.Drafts.{as_stored, as_owned, as_bare, as_column, draft_fi
 use Rattle.draft.specs.declared.word.DraftField.{DraftField}
 use Rattle.draft.proofs.Fields.{stored-fields, owned-fields, bare-fields, stored-inside, owned_inside, bare-inside, stored_bytes, owned-bytes, bare-bytes, column-fields, column-inside, column-bytes}
 use Rattle.tables.specs.Holding.{view_in}
-use Rattle.tables.specs.Making.{tree_for, input_numbers}
+use Rattle.tables.specs.Making.{tree_for, input_numbers, bounded, well_named}
 use Rattle.tables.specs.Placing.{lent_owner, lent_given}
-use Rattle.tables.specs.Drafting.{DraftOf}
+use Rattle.tables.specs.Drafting.{DraftOf, ShownDraft}
 use Rattle.tables.specs.declared.node.NewNode.{NewNode}
+use Rattle.tables.specs.declared.node.NewNode.TheVariants.{Table, Projection, Filter, Sort, Limit, Aggregate, Join, SubqueryAlias, Union}
 use Rattle.tables.specs.declared.tables.Tables.{Tables}
-
--- a draft of what a new node shows, and of what has to be lawful together
-abbrev pub ShownDraft : Tables → NewNode → List DraftField → Type 0
-ShownDraft t n ds =
-    DraftOf (view_in t) (lent_owner n) (lent_given n) (fields_of (view_in t).functions (tree_for t n)) (sum_by (rendered_bytes (view_in t).functions) (shown_expressions (tree_for t n))) ds
 
 pub for-new : (t : Tables) (n m : NewNode) (ds : List DraftField) → n ≡ m → ShownDraft t m ds → ShownDraft t n ds
 for-new t n m ds e h = subst (λ x. ShownDraft t x ds) (sym e) h
@@ -151,6 +147,20 @@ short-room (n ∷ ns) h =
 
 pub names-short : (cs : List ℕ) → every good_name (parts cs) ≡ true → length (parts cs) ≤ 64 → length cs ≤ 16384
 names-short cs h k = omega (arith, parts-room cs, short-room (parts cs) h)
+
+-- lent names are short
+pub lent-short : (n : NewNode) → well_named n ≡ true → bounded n ≡ true → (length (lent_owner n) ≤ 131072) × (length (lent_given n) ≤ 131072)
+lent-short (Table q ns) h b =
+    let p = and_parts (good_name q.now) (every good_name (parts ns.now)) h in
+    (omega (arith, name-short q.now p.0), omega (arith, names-short ns.now p.1 (leb-true _ _ b)))
+lent-short (Projection i l) h b = (omega arith, omega arith)
+lent-short (Filter i e) h b = (omega arith, omega arith)
+lent-short (Sort i ks) h b = (omega arith, omega arith)
+lent-short (Limit i s c) h b = (omega arith, omega arith)
+lent-short (Aggregate i gs us) h b = (omega arith, omega arith)
+lent-short (Join k l r cs) h b = (omega arith, omega arith)
+lent-short (SubqueryAlias i n) h b = (omega (arith, name-short n.now h), omega arith)
+lent-short (Union is) h b = (omega arith, omega arith)
 
 -- the first input of a Union
 pub first_below : (k : ℕ) (is : List PlanId) (d : PlanId) → 1 ≤ length is → all_below k (input_numbers is) ≡ true → (get_or is 0 d).0 < k

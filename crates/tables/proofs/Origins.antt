@@ -12,7 +12,7 @@ use Rattle.terms.specs.declared.node.Entry.{Entry}
 use Rattle.terms.specs.declared.node.PlanId.{PlanId}
 use Rattle.terms.specs.declared.node.StoredField.{StoredField}
 use Rattle.tables.specs.Holding.{model_from}
-use Rattle.tables.specs.Remaking.{OriginGiven}
+use Rattle.tables.specs.Origins.{OriginGiven}
 use Rattle.tables.specs.Stored.{fields_in, run_in, build_plan_node, build_plan, plan_nodes, plan_trees, node_trees, node_inputs, inputs_from, inside_node, accepted_node, inside_plan, fielded_at}
 use Rattle.tables.specs.declared.node.PlanRecord.{PlanRecord}
 use Rattle.tables.proofs.PlanFacts.{PlanFacts, ok_at}

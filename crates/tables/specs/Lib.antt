@@ -10,5 +10,6 @@ pub mod Drafting
 pub mod Looking
 pub mod Keys
 pub mod Remaking
+pub mod Origins
 pub mod Tracing
 pub mod Begun

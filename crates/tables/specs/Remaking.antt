@@ -1,12 +1,11 @@
--- A node made anew from the parts of another; cited by src/tables/remaking.rt and src/tables/swapping.rt.
+-- A node made anew from the parts of another; cited by src/remaking.rt.
 --     tree_asked m p      questions 6 to 9 of a node with the tree p, whose lists and name are stored again
 --     TreeStored m p is r m', TreeMade m p is r m'      the book with such a node, on these inputs; what making it comes to
---     OriginGiven m i o m'      the node i has the origin o, and all else is as it was
-use Rattle.std.specs.Prelude.{◌≡◌, ℕ, List, [], ◌∷◌, ◌++◌, Some, None, Ok, Err, Result, slice_set}
+use Rattle.std.specs.Prelude.{◌≡◌, ℕ, List, [], ◌∷◌, ◌++◌, Some, None, Ok, Err, Result}
 use Rattle.plan.specs.Plans.{Plan}
 use Rattle.plan.specs.Faults.{Asked, first_no, refusal}
 use Rattle.plan.specs.Questions.{node_asked}
-use Rattle.plan.specs.Model.{Model, fits, plus, count_of, tree_at}
+use Rattle.plan.specs.Model.{Model, fits, plus, count_of}
 use Rattle.plan.specs.Swapping.{own_space}
 use Rattle.plan.specs.declared.fault.Fault.{Fault}
 use Rattle.plan.specs.declared.fault.Question.TheVariants.{Space as SpaceQuestion}
@@ -29,11 +28,3 @@ pub record TreeStored (m : Model) (p : Plan) (is : List ℕ) (r : ℕ) (m' : Mod
 abbrev pub TreeMade : Model → Plan → List ℕ → Result PlanId Fault → Model → Type 0
 TreeMade m p is (Ok r) m' = (first_no (tree_asked m p) ≡ None) × TreeStored m p is r.0 m'
 TreeMade m p is (Err f) m' = (first_no (tree_asked m p) ≡ Some f.question) × (f ≡ refusal f.question) × (m' ≡ m)
-
-pub record OriginGiven (m : Model) (i o : ℕ) (m' : Model) : Type 0 where
-  pub functions : m'.functions ≡ m.functions
-  pub exprs : m'.exprs ≡ m.exprs
-  pub plans : m'.plans ≡ slice_set m.plans i (record { tree = tree_at m i; origin = o })
-  pub inputs : m'.inputs ≡ m.inputs
-  pub text : m'.text ≡ m.text
-  pub used : m'.used ≡ m.used

@@ -11,6 +11,7 @@ use table::table::Table;
 use terms::node::StoredField;
 use terms::terms::Terms;
 
+mod adding;
 mod asked;
 mod asking;
 pub mod attempting;
@@ -23,6 +24,7 @@ mod making;
 mod marking;
 mod measuring;
 mod opening;
+mod origins;
 mod reading;
 mod remaking;
 mod swapping;

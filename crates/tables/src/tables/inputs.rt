@@ -10,7 +10,7 @@ use terms::node::PlanId;
 
 impl Tables {
     /// How many inputs a node has.
-    pub(super) fn input_count(&self, p: PlanId) -> u32
+    pub fn input_count(&self, p: PlanId) -> u32
         requires { p.0 < plan_count self.now }
         ensures { result ≡ length (inputs_at (model_of self.now) p.0) }
     {
@@ -23,7 +23,7 @@ impl Tables {
     }
 
     /// The input at a position; a Table has none.
-    pub(super) fn input_at(&self, p: PlanId, position: u32) -> PlanId
+    pub fn input_at(&self, p: PlanId, position: u32) -> PlanId
         requires node { p.0 < plan_count self.now }
         requires position { position < length (inputs_at (model_of self.now) p.0) }
         ensures value { result.0 ≡ slice_index (inputs_at (model_of self.now) p.0) position }

@@ -18,16 +18,8 @@ use super::Tables;
 use crate::node::{PlanRecord, Run};
 use plan::fault::{Fault, Question, ask};
 use terms::node::{Declaration, Entry, ExprId, ExprNode, PlanId, Span, StoredField};
-use terms::terms::Terms;
 
 impl Tables {
-    /// How many expressions there are.
-    pub fn expr_count(&self) -> usize
-        ensures { result ≡ length (model_of self.now).exprs }
-    {
-        self.terms.len()
-    }
-
     /// A node: its kind, inputs and lists, the run of its fields, its size and its origin.
     pub fn plan(&self, p: PlanId) -> Result<PlanRecord, Fault>
         ensures { Looked ((Present, below (plan_count self.now) p.0) ∷ []) (ReadsAs self.now p.0) result }
@@ -98,13 +90,6 @@ impl Tables {
     {
         ask(self.has_run(run, i), Question::Bounded)?;
         Ok(self.terms.entry(run, i))
-    }
-
-    /// The expressions, with the functions and the text.
-    pub fn terms(&self) -> &Terms
-        ensures { result.now ≡ self.now.terms }
-    {
-        &self.terms
     }
 
     /// The fields of a node.

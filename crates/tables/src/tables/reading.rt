@@ -1,5 +1,5 @@
-//! What is asked of nodes.
-ghost use Rattle.std.specs.Prelude.{◌≡◌, ◌<◌, ◌≤◌, true, map, length};
+//! What is asked of nodes and of expressions.
+ghost use Rattle.std.specs.Prelude.{◌≡◌, ◌+◌, ◌<◌, ◌≤◌, true, map, length};
 ghost use Rattle.plan.specs.Model.{expr_in, exprs_in, origin_at};
 ghost use Rattle.tables.specs.Holding.{fields_at, model_of, plan_count, tree_in, view_in};
 ghost use Rattle.tables.specs.Reading.{ReadsAs};
@@ -13,9 +13,17 @@ ghost use Rattle.terms.specs.Views.{numbers_of};
 use super::Tables;
 use crate::node::PlanRecord;
 use terms::node::{ExprId, PlanId, StoredField};
+use terms::terms::Terms;
 
 // That a node or an expression is there is a clause of each call: a number says nothing of the tables, which grow.
 impl Tables {
+    /// The expressions, with the functions and the text.
+    pub fn terms(&self) -> &Terms
+        ensures { result.now ≡ self.now.terms }
+    {
+        &self.terms
+    }
+
     /// How many nodes there are.
     pub fn len(&self) -> usize
         ensures value { result ≡ plan_count self.now }
@@ -32,7 +40,7 @@ impl Tables {
     }
 
     /// What the table holds of a node.
-    pub(super) fn record_of(&self, p: PlanId) -> PlanRecord
+    pub fn record_of(&self, p: PlanId) -> PlanRecord
         requires { p.0 < plan_count self.now }
         ensures { ReadsAs self.now p.0 result }
     {
@@ -51,7 +59,7 @@ impl Tables {
     }
 
     /// How many nodes a node's tree has.
-    pub(super) fn size_of(&self, p: PlanId) -> u32
+    pub fn size_of(&self, p: PlanId) -> u32
         requires { p.0 < plan_count self.now }
         ensures value { result ≡ plan_size_of (tree_in self.now p.0) }
         ensures bound { result ≤ 64 }
@@ -65,6 +73,20 @@ impl Tables {
         ensures { result.0 ≡ origin_at (model_of self.now) p.0 }
     {
         self.record_of(p).origin
+    }
+
+    /// How many more fields there is room for.
+    pub fn field_room(&self) -> usize
+        ensures { result + length self.now.fields ≡ 2048 }
+    {
+        self.fields.room()
+    }
+
+    /// How many expressions there are.
+    pub fn expr_count(&self) -> usize
+        ensures { result ≡ length (model_of self.now).exprs }
+    {
+        self.terms.len()
     }
 
     /// Whether an expression stands in the book.

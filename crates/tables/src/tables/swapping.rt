@@ -1,24 +1,14 @@
 //! A node with one input replaced by another of the same origin.
-ghost use Rattle.std.specs.Prelude.{◌≡◌, ◌<◌, ◌≤◌, ◌&&◌, length, ◌==◌, nat_lt};
+ghost use Rattle.std.specs.Prelude.{◌≡◌, ◌<◌, ◌&&◌, length, nat_lt};
 ghost use Rattle.plan.specs.Calls.{below};
-ghost use Rattle.plan.specs.Model.{inputs_at, origin_at};
+ghost use Rattle.plan.specs.Model.{inputs_at};
 ghost use Rattle.plan.specs.Swapping.{SwapAnswers};
 ghost use Rattle.tables.specs.Answering.{answered_plan};
 ghost use Rattle.tables.specs.Holding.{model_of, plan_count};
-ghost use Rattle.tables.specs.Remaking.{OriginGiven};
 
 use super::Tables;
-use crate::node::PlanRecord;
 use plan::fault::{Fault, Question, ask};
 use terms::node::PlanId;
-
-/// Sets the origin of a record that is lent.
-// A function of its own, since a rule of the project asks for one that is lent a record and sets a field of it.
-fn set_origin(lent: &mut PlanRecord, origin: PlanId)
-    ensures { lent.new ≡ record { node = lent.old.node; fields = lent.old.fields; size = lent.old.size; origin = origin } }
-{
-    lent.origin = origin;
-}
 
 impl Tables {
     /// Whether two nodes stand in the book.
@@ -34,27 +24,6 @@ impl Tables {
         ensures { result ≡ nat_lt position (length (inputs_at (model_of self.now) p.0)) }
     {
         position < self.input_count(p)
-    }
-
-    /// Whether two nodes have one origin.
-    pub fn same_origin(&self, a: PlanId, b: PlanId) -> bool
-        requires first { a.0 < plan_count self.now }
-        requires second { b.0 < plan_count self.now }
-        ensures { result ≡ (origin_at (model_of self.now) a.0 == origin_at (model_of self.now) b.0) }
-    {
-        self.origin_of(a) == self.origin_of(b)
-    }
-
-    /// Gives a node the origin of an older one, or its own.
-    fn give_origin(&mut self, p: PlanId, origin: PlanId)
-        requires node { p.0 < plan_count self.old }
-        requires older { origin.0 ≤ p.0 }
-        ensures { OriginGiven (model_of self.old) p.0 origin.0 (model_of self.new) }
-    {
-        let i = p.0 as usize;
-        let mut held = self.plans.get(i);
-        set_origin(&mut held, origin);
-        self.plans.set(i, held);
     }
 
     /// A node like `node`, with `input` in place of its input at a position. Both inputs have one origin, and the new

@@ -25,15 +25,14 @@ pub store-requires : goal.store-requires
 store-requires c =
     let t = c.args.self.now in
     let n = c.args.node in
-    let ds = c.draft_shown.new.out in
+    let ds = c.args.draft.now in
     let w = view_of c.place-placed.new.terms in
-    let s = c.as_slice.ensures in
     let f = fits-parts (model_of t).used (outlay_for t n) c.requires.room in
     record {
       lent = c.place-placed.ensures.placed.lent;
-      inside = ap (every _) s ∙ draft-kept t n _ ds c.draft_shown.ensures w c.place-placed.result c.place-placed.ensures.placed;
-      fields = omega (arith, ap length s, draft-long t n _ ds c.draft_shown.ensures w c.place-placed.result c.place-placed.ensures.placed, f.2);
-      bytes = omega (arith, ap (draft_bytes w) s, bytes_left t n _ ds c.draft_shown.ensures w c.place-placed.result c.place-placed.ensures.placed c.requires.room);
+      inside = draft-kept t n _ ds c.requires.draft w c.place-placed.result c.place-placed.ensures.placed;
+      fields = omega (arith, draft-long t n _ ds c.requires.draft w c.place-placed.result c.place-placed.ensures.placed, f.2);
+      bytes = omega (arith, bytes_left t n _ ds c.requires.draft w c.place-placed.result c.place-placed.ensures.placed c.requires.room);
     }
 
 pub push-requires : goal.push-requires
@@ -45,15 +44,15 @@ pub invariant_of-self : goal.invariant_of-self
 invariant_of-self c =
     let t = c.args.self.now in
     let n = c.args.node in
-    let ds = c.draft_shown.new.out in
+    let ds = c.args.draft.now in
     let w = view_of c.place-placed.new.terms in
     let x = c.place-placed.result in
-    let st = stored-for w (view_of c.store.new.terms) _ _ _ ds t.fields c.store.new.fields c.as_slice.ensures c.store.ensures.all in
-    let k = added-facts t n c.len.result ds c.draft_shown.ensures w x c.place-placed.ensures.placed (c.len.ensures.value ∙ sym (counted t)) (view_of c.store.new.terms) c.store.new.fields st c.requires.limited c.requires.named _ refl _ _ _ c.len-first.ensures.value c.len-count.ensures.value c.tree_size-size.ensures c.push.new.self c.push.ensures in
+    let st = c.store.ensures.all in
+    let k = added-facts t n c.len.result ds c.requires.draft w x c.place-placed.ensures.placed (c.len.ensures.value ∙ sym (counted t)) (view_of c.store.new.terms) c.store.new.fields st c.requires.limited c.requires.named _ refl _ _ _ c.len-first.ensures.value refl c.requires.size c.push.new.self c.push.ensures in
     let f = fits-parts (model_of t).used (outlay_for t n) c.requires.room in
     let new : length st.new ≡ length ds = sym (length-map st.new (stored_field (view_of c.store.new.terms).bytes)) ∙ ap length st.fields ∙ length-map ds _ in
     record {
-      few_fields = omega (arith, ap length st.grew, length-append t.fields st.new, new, draft-long t n _ ds c.draft_shown.ensures w x c.place-placed.ensures.placed, f.2);
+      few_fields = omega (arith, ap length st.grew, length-append t.fields st.new, new, draft-long t n _ ds c.requires.draft w x c.place-placed.ensures.placed, f.2);
       few_plans = omega (arith, ap length c.push.ensures ∙ length_push t.plans _, f.0, counted t);
       stored = k.are-stored;
       sound = k.are-sound;
@@ -65,8 +64,8 @@ pub returns-clause-stored : goal.returns-clause-stored
 returns-clause-stored c =
     let t = c.args.self.now in
     let n = c.args.node in
-    let ds = c.draft_shown.new.out in
+    let ds = c.args.draft.now in
     let w = view_of c.place-placed.new.terms in
     let x = c.place-placed.result in
-    let st = stored-for w (view_of c.store.new.terms) _ _ _ ds t.fields c.store.new.fields c.as_slice.ensures c.store.ensures.all in
-    added t n c.len.result ds c.draft_shown.ensures w x c.place-placed.ensures.placed (c.len.ensures.value ∙ sym (counted t)) (view_of c.store.new.terms) c.store.new.fields st c.requires.limited c.requires.named _ refl _ _ _ c.len-first.ensures.value c.len-count.ensures.value c.tree_size-size.ensures c.push.new.self c.push.ensures
+    let st = c.store.ensures.all in
+    added t n c.len.result ds c.requires.draft w x c.place-placed.ensures.placed (c.len.ensures.value ∙ sym (counted t)) (view_of c.store.new.terms) c.store.new.fields st c.requires.limited c.requires.named _ refl _ _ _ c.len-first.ensures.value refl c.requires.size c.push.new.self c.push.ensures

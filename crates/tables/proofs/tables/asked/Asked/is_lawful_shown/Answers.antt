@@ -3,7 +3,7 @@ use Rattle.plan.specs.Fields.{every, lawful}
 use Rattle.draft.specs.Drafts.{draft_field, draft_in}
 use Rattle.tables.specs.Holding.{view_in}
 use Rattle.tables.specs.Placing.{lent_owner, lent_given}
-use Rattle.tables.proofs.Adding.{lent-short}
+use Rattle.tables.proofs.Draftings.{lent-short}
 use Rattle.tables.proofs.tables.asked.Asked.is_lawful_shown.Goals as goal
 
 pub is_lawful-requires : goal.is_lawful-requires
