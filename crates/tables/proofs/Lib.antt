@@ -4,14 +4,6 @@ pub mod Held
 pub mod Inputs
 pub mod Placings
 pub mod Answers
-pub mod Draftings
-pub mod NodeFacts
-pub mod Small
-pub mod Fitting
 pub mod Adding
-pub mod Questions
-pub mod Remaking
 pub mod Origins
-pub mod Swaps
-pub mod Traces
 pub mod Begun

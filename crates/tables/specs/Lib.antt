@@ -2,14 +2,10 @@ pub mod Stored
 pub mod Holding
 pub mod Reading
 pub mod Making
-pub mod Asked
 pub mod Placing
 pub mod Listing
 pub mod Answering
 pub mod Drafting
-pub mod Looking
 pub mod Keys
-pub mod Remaking
 pub mod Origins
-pub mod Tracing
 pub mod Begun

@@ -1,7 +1,6 @@
-//! The five tables of a book, and the calls that build expressions and plans in them.
+//! The five tables of a book, the calls that make an expression in them, and the call that stores a node.
 #![tactic(auto)]
 
-mod copying;
 mod keys;
 pub mod marks;
 pub mod node;

@@ -12,25 +12,15 @@ use terms::node::StoredField;
 use terms::terms::Terms;
 
 mod adding;
-mod asked;
-mod asking;
 pub mod attempting;
-mod drafting;
 mod expressions;
 mod inputs;
-mod lawful;
-mod looking;
-mod making;
 mod marking;
-mod measuring;
 mod opening;
 mod origins;
 mod reading;
-mod remaking;
-mod swapping;
 #[cfg(test)]
 mod tests;
-mod tracing;
 
 #[derive(Drop)]
 pub struct Tables {

@@ -1,0 +1,25 @@
+-- The terms of the tables, lent: what a call says of them, it says of the tables.
+use Rattle.std.proofs.Common.{◌≡◌, ℕ, true, List, length, sum_by, ap, ◌∙◌, subst}
+use Rattle.plan.specs.Fields.{every}
+use Rattle.plan.specs.Questions.{short_name}
+use Rattle.plan.specs.Model.{exprs_in}
+use Rattle.plan.specs.Calls.{all_below, rendered_bytes}
+use Rattle.terms.specs.Views.{count, view_of}
+use Rattle.terms.specs.declared.terms.Terms.{Terms}
+use Rattle.draft.specs.Drafts.{FieldsFor}
+use Rattle.draft.specs.declared.word.DraftField.{DraftField}
+use Rattle.tables.specs.Holding.{view_in}
+use Rattle.tables.specs.declared.tables.Tables.{Tables}
+
+module _ (t : Tables) (s : Terms) (e : s ≡ t.terms) where
+  pub present-lent : (ns : List ℕ) → all_below (length (view_in t).trees) ns ≡ true → all_below (count s) ns ≡ true
+  present-lent ns h = ap (λ x. all_below (count x) ns) e ∙ h
+
+  pub short-lent : (ns : List ℕ) → every (short_name (view_of s).functions) (exprs_in (view_of s).trees ns) ≡ every (short_name (view_in t).functions) (exprs_in (view_in t).trees ns)
+  short-lent ns = ap (λ x. every (short_name (view_of x).functions) (exprs_in (view_of x).trees ns)) e
+
+  pub rendered-lent : (ns : List ℕ) → sum_by (rendered_bytes (view_of s).functions) (exprs_in (view_of s).trees ns) ≡ sum_by (rendered_bytes (view_in t).functions) (exprs_in (view_in t).trees ns)
+  rendered-lent ns = ap (λ x. sum_by (rendered_bytes (view_of x).functions) (exprs_in (view_of x).trees ns)) e
+
+  pub fields-lent : (ns : List ℕ) (b a : List DraftField) → FieldsFor (view_of s) (exprs_in (view_of s).trees ns) b a → FieldsFor (view_in t) (exprs_in (view_in t).trees ns) b a
+  fields-lent ns b a h = subst (λ x. FieldsFor (view_of x) (exprs_in (view_of x).trees ns) b a) e h

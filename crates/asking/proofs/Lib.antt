@@ -1,0 +1,6 @@
+pub mod Draftings
+pub mod NodeFacts
+pub mod Small
+pub mod Fitting
+pub mod Questions
+pub mod Lent

@@ -1,0 +1,90 @@
+//! Whether the fields of a new node may stand together.
+ghost use Rattle.std.specs.Prelude.{◌≡◌, ◌<◌, ◌++◌};
+ghost use Rattle.tables.specs.Holding.{fields_at, plan_count};
+ghost use Rattle.asking.specs.Asked.{functions_for, new_fields, new_tree};
+ghost use Rattle.tables.specs.Placing.{lent_given, lent_owner};
+ghost use Rattle.plan.specs.Fields.{lawful};
+ghost use Rattle.plan.specs.Plans.{fields_of};
+ghost use Rattle.plan.specs.Questions.{joint_fields};
+
+use crate::asked::Asked;
+use draft::building::push_stored;
+use draft::lawful::Source;
+use draft::word::{DraftField, Word};
+use table::table::Table;
+use tables::node::NewNode;
+use tables::tables::Tables;
+use terms::node::PlanId;
+
+/// What fills the places of a draft that are not used.
+// A filler from the caller: a Default of fields would be a made-up field that all can see.
+pub(crate) fn blank() -> DraftField {
+    DraftField {
+        qualifier: None,
+        name: Word::Owner,
+    }
+}
+
+/// The lent name that the new node's fields take as qualifier; nothing where there is none.
+// An empty name for none, as the definition answers: a Source takes slices.
+fn lent_owner<'a>(node: NewNode<'a>) -> &'a [u8]
+    ensures { result.now ≡ lent_owner node.entry }
+{
+    match node {
+        NewNode::Table { qualifier, .. } => qualifier,
+        NewNode::SubqueryAlias { name, .. } => name,
+        _ => b"",
+    }
+}
+
+/// The lent names of the new node's fields; nothing where there are none.
+// Empty for none, as the definition answers: a Source takes slices.
+fn lent_given<'a>(node: NewNode<'a>) -> &'a [u8]
+    ensures { result.now ≡ lent_given node.entry }
+{
+    match node {
+        NewNode::Table { names, .. } => names,
+        _ => b"",
+    }
+}
+
+fn is_lawful_join(tables: &Tables, left: PlanId, right: PlanId) -> bool
+    requires left { left.0 < plan_count tables.now }
+    requires right { right.0 < plan_count tables.now }
+    ensures { result ≡ lawful (fields_at tables.now left.0 ++ fields_at tables.now right.0) }
+{
+    let mut draft = Table::new(blank());
+    push_stored(&mut draft, tables.fields_of(left));
+    push_stored(&mut draft, tables.fields_of(right));
+    let source = Source {
+        terms: tables.terms(),
+        owner: b"",
+        given: b"",
+    };
+    source.is_lawful(draft.as_slice())
+}
+
+impl Asked<'_, '_> {
+    fn is_lawful_shown(self) -> bool
+        ensures { result ≡ lawful (new_fields self.entry) }
+    {
+        let mut draft = Table::new(blank());
+        self.draft_shown(&mut draft);
+        let source = Source {
+            terms: self.tables.terms(),
+            owner: lent_owner(self.node),
+            given: lent_given(self.node),
+        };
+        source.is_lawful(draft.as_slice())
+    }
+
+    /// Whether the fields of the new node, and of both sides of a join, may stand in one list.
+    pub(crate) fn is_lawful_node(self) -> bool
+        ensures { result ≡ lawful (joint_fields (functions_for self.entry) (new_tree self.entry)) }
+    {
+        match self.node {
+            NewNode::Join { left, right, .. } => is_lawful_join(self.tables, left, right),
+            _ => self.is_lawful_shown(),
+        }
+    }
+}
