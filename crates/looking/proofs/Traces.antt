@@ -17,7 +17,7 @@ use Rattle.terms.specs.Views.{View}
 use Rattle.terms.specs.declared.node.PlanId.{PlanId}
 use Rattle.tables.specs.Holding.{view_in, trees_in, fields_at, model_of, plan_count}
 use Rattle.tables.specs.Stored.{build_plan_node, node_inputs, run_numbers}
-use Rattle.tables.specs.Tracing.{found_plan, WalkedTo}
+use Rattle.looking.specs.Tracing.{found_plan, WalkedTo}
 use Rattle.tables.specs.declared.node.PlanNode.{PlanNode}
 use Rattle.tables.specs.declared.node.PlanNode.TheVariants.{Table, Projection, Filter, Sort, Limit, Aggregate, Join, SubqueryAlias, Union}
 use Rattle.tables.specs.declared.tables.Tables.{Tables}

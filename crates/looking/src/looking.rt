@@ -1,7 +1,7 @@
 //! What a reader of a book may ask; whatever is given, there is an answer or a refusal.
 ghost use Rattle.std.specs.Prelude.{◌≡◌, ◌+◌, ◌<◌, true, ◌&&◌, [], ◌∷◌, map, length, nat_le, nat_lt, slice_index, slice_index_or};
 ghost use Rattle.tables.specs.Holding.{fields_at, model_of, plan_count, view_in};
-ghost use Rattle.tables.specs.Looking.{Looked, entry_count, field_in};
+ghost use Rattle.looking.specs.Looking.{Looked, entry_count, field_in};
 ghost use Rattle.tables.specs.Reading.{ReadsAs};
 ghost use Rattle.plan.specs.Calls.{below};
 ghost use Rattle.plan.specs.Fields.{every};
@@ -14,89 +14,88 @@ ghost use Rattle.terms.specs.Spans.{function_in, stored_field, stored_in};
 ghost use Rattle.names.specs.Spans.{span_in, word};
 ghost use Rattle.terms.specs.Views.{tree_for};
 
-use super::Tables;
-use crate::node::{PlanRecord, Run};
 use plan::fault::{Fault, Question, ask};
+use tables::node::{PlanRecord, Run};
+use tables::tables::Tables;
 use terms::node::{Declaration, Entry, ExprId, ExprNode, PlanId, Span, StoredField};
 
-impl Tables {
-    /// A node: its kind, inputs and lists, the run of its fields, its size and its origin.
-    pub fn plan(&self, p: PlanId) -> Result<PlanRecord, Fault>
-        ensures { Looked ((Present, below (plan_count self.now) p.0) ∷ []) (ReadsAs self.now p.0) result }
-    {
-        ask(self.has(p), Question::Present)?;
-        Ok(self.record_of(p))
-    }
+/// A node: its kind, inputs and lists, the run of its fields, its size and its origin.
+pub fn plan(tables: &Tables, p: PlanId) -> Result<PlanRecord, Fault>
+    ensures { Looked ((Present, below (plan_count tables.now) p.0) ∷ []) (ReadsAs tables.now p.0) result }
+{
+    ask(tables.has(p), Question::Present)?;
+    Ok(tables.record_of(p))
+}
 
-    /// An expression: what it is and its parts.
-    pub fn expr(&self, e: ExprId) -> Result<ExprNode, Fault>
-        ensures { Looked ((Present, below (length (model_of self.now).exprs) e.0) ∷ []) (λ n. expr_in (model_of self.now).exprs e.0 ≡ tree_for self.now.terms n) result }
-    {
-        ask(self.terms.has(e), Question::Present)?;
-        Ok(self.terms.node(e))
-    }
+/// An expression: what it is and its parts.
+pub fn expr(tables: &Tables, e: ExprId) -> Result<ExprNode, Fault>
+    ensures { Looked ((Present, below (length (model_of tables.now).exprs) e.0) ∷ []) (λ n. expr_in (model_of tables.now).exprs e.0 ≡ tree_for tables.now.terms n) result }
+{
+    ask(tables.terms().has(e), Question::Present)?;
+    Ok(tables.terms().node(e))
+}
 
-    /// The field at a place of a node.
-    pub fn field(&self, p: PlanId, i: u32) -> Result<StoredField, Fault>
-        ensures { Looked ((Present, below (plan_count self.now) p.0) ∷ (Bounded, nat_lt i (length (fields_at self.now p.0))) ∷ []) (λ f. stored_field (view_in self.now).bytes f ≡ field_in self.now p.0 i) result }
-    {
-        ask(self.has(p), Question::Present)?;
-        self.fields_of(p)
-            .get(i as usize)
-            .copied()
-            .ok_or(Question::Bounded.refusal())
-    }
+/// The field at a place of a node.
+pub fn field(tables: &Tables, p: PlanId, i: u32) -> Result<StoredField, Fault>
+    ensures { Looked ((Present, below (plan_count tables.now) p.0) ∷ (Bounded, nat_lt i (length (fields_at tables.now p.0))) ∷ []) (λ f. stored_field (view_in tables.now).bytes f ≡ field_in tables.now p.0 i) result }
+{
+    ask(tables.has(p), Question::Present)?;
+    tables
+        .fields_of(p)
+        .get(i as usize)
+        .copied()
+        .ok_or(Question::Bounded.refusal())
+}
 
-    /// The declaration of a number, if there is one.
-    pub fn function(&self, number: u8) -> Option<Declaration>
-        ensures { function_in (model_of self.now).text result ≡ function_at (model_of self.now).functions number }
-    {
-        self.terms.function(number)
-    }
+/// The declaration of a number, if there is one.
+pub fn function(tables: &Tables, number: u8) -> Option<Declaration>
+    ensures { function_in (model_of tables.now).text result ≡ function_at (model_of tables.now).functions number }
+{
+    tables.terms().function(number)
+}
 
-    fn has_span(&self, span: Span) -> bool
-        ensures { result ≡ span_in (model_of self.now).text span }
-    {
-        (span.start as usize) + (span.len as usize) <= self.terms.bytes().len()
-    }
+fn has_span(tables: &Tables, span: Span) -> bool
+    ensures { result ≡ span_in (model_of tables.now).text span }
+{
+    (span.start as usize) + (span.len as usize) <= tables.terms().bytes().len()
+}
 
-    /// The part of the text that a span names.
-    pub fn word(&self, span: Span) -> Result<&[u8], Fault>
-        ensures { Looked ((Bounded, span_in (model_of self.now).text span) ∷ []) (λ w. w.now ≡ word (model_of self.now).text span) result }
-    {
-        ask(self.has_span(span), Question::Bounded)?;
-        Ok(self.terms.word(span))
-    }
+/// The part of the text that a span names.
+pub fn word(tables: &Tables, span: Span) -> Result<&[u8], Fault>
+    ensures { Looked ((Bounded, span_in (model_of tables.now).text span) ∷ []) (λ w. w.now ≡ word (model_of tables.now).text span) result }
+{
+    ask(has_span(tables, span), Question::Bounded)?;
+    Ok(tables.terms().word(span))
+}
 
-    fn has_run(&self, run: Run, i: u32) -> bool
-        ensures { result ≡ (nat_le (run.first + run.count) (entry_count self.now) && nat_lt i run.count) }
-    {
-        // Counted back from the room: a call for the number of entries would stand beside `list_room` for this one use.
-        let len = 2048 - self.terms.list_room();
-        (run.first as usize) + (run.count as usize) <= len && i < run.count
-    }
+fn has_run(tables: &Tables, run: Run, i: u32) -> bool
+    ensures { result ≡ (nat_le (run.first + run.count) (entry_count tables.now) && nat_lt i run.count) }
+{
+    // Counted back from the room: a call for the number of entries would stand beside `list_room` for this one use.
+    let len = 2048 - tables.terms().list_room();
+    (run.first as usize) + (run.count as usize) <= len && i < run.count
+}
 
-    /// The expression, or the node, at a place of a list.
-    pub fn listed(&self, run: Run, i: u32) -> Result<ExprId, Fault>
-        ensures { Looked ((Bounded, nat_le (run.first + run.count) (entry_count self.now) && nat_lt i run.count) ∷ []) (λ e. e.0 ≡ slice_index (numbers_in (view_in self.now).entries run.first run.count) i) result }
-    {
-        ask(self.has_run(run, i), Question::Bounded)?;
-        Ok(self.terms.listed(run, i))
-    }
+/// The expression, or the node, at a place of a list.
+pub fn listed(tables: &Tables, run: Run, i: u32) -> Result<ExprId, Fault>
+    ensures { Looked ((Bounded, nat_le (run.first + run.count) (entry_count tables.now) && nat_lt i run.count) ∷ []) (λ e. e.0 ≡ slice_index (numbers_in (view_in tables.now).entries run.first run.count) i) result }
+{
+    ask(has_run(tables, run, i), Question::Bounded)?;
+    Ok(tables.terms().listed(run, i))
+}
 
-    /// The entry at a place of a list: an expression, a Sort key with its direction, or a node.
-    pub fn entry(&self, run: Run, i: u32) -> Result<Entry, Fault>
-        ensures { Looked ((Bounded, nat_le (run.first + run.count) (entry_count self.now) && nat_lt i run.count) ∷ []) (λ e. (d : Entry) → e ≡ slice_index_or (part (view_in self.now).entries run.first run.count) i d) result }
-    {
-        ask(self.has_run(run, i), Question::Bounded)?;
-        Ok(self.terms.entry(run, i))
-    }
+/// The entry at a place of a list: an expression, a Sort key with its direction, or a node.
+pub fn entry(tables: &Tables, run: Run, i: u32) -> Result<Entry, Fault>
+    ensures { Looked ((Bounded, nat_le (run.first + run.count) (entry_count tables.now) && nat_lt i run.count) ∷ []) (λ e. (d : Entry) → e ≡ slice_index_or (part (view_in tables.now).entries run.first run.count) i d) result }
+{
+    ask(has_run(tables, run, i), Question::Bounded)?;
+    Ok(tables.terms().entry(run, i))
+}
 
-    /// The fields of a node.
-    pub fn node_fields(&self, p: PlanId) -> Result<&[StoredField], Fault>
-        ensures { Looked ((Present, below (plan_count self.now) p.0) ∷ []) (λ fs. (map (stored_field (view_in self.now).bytes) fs.now ≡ fields_at self.now p.0) × (every (stored_in (view_in self.now).bytes) fs.now ≡ true)) result }
-    {
-        ask(self.has(p), Question::Present)?;
-        Ok(self.fields_of(p))
-    }
+/// The fields of a node.
+pub fn node_fields(tables: &Tables, p: PlanId) -> Result<&[StoredField], Fault>
+    ensures { Looked ((Present, below (plan_count tables.now) p.0) ∷ []) (λ fs. (map (stored_field (view_in tables.now).bytes) fs.now ≡ fields_at tables.now p.0) × (every (stored_in (view_in tables.now).bytes) fs.now ≡ true)) result }
+{
+    ask(tables.has(p), Question::Present)?;
+    Ok(tables.fields_of(p))
 }
