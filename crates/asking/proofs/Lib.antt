@@ -3,4 +3,3 @@ pub mod NodeFacts
 pub mod Small
 pub mod Fitting
 pub mod Questions
-pub mod Lent

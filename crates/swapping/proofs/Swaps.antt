@@ -8,8 +8,8 @@ use Rattle.plan.specs.Model.{Model, Node, no_node, count_of, tree_at, origin_at,
 use Rattle.plan.specs.Swapping.{swap_tree, Swapped}
 use Rattle.plan.specs.declared.fault.Question.TheVariants.{Present, Bounded, SameOrigin}
 use Rattle.tables.specs.Origins.{OriginGiven}
-use Rattle.tables.specs.Remaking.{tree_asked, TreeStored}
-use Rattle.tables.proofs.Questions.{AllYes, go_on}
+use Rattle.swapping.specs.Remaking.{tree_asked, TreeStored}
+use Rattle.asking.proofs.Questions.{AllYes, go_on}
 
 -- the questions of the call itself
 abbrev pub swap_own : Model → ℕ → ℕ → ℕ → List Asked

@@ -6,38 +6,37 @@ ghost use Rattle.plan.specs.Swapping.{SwapAnswers};
 ghost use Rattle.tables.specs.Answering.{answered_plan};
 ghost use Rattle.tables.specs.Holding.{model_of, plan_count};
 
-use super::Tables;
+use crate::remaking::remake;
 use plan::fault::{Fault, Question, ask};
+use tables::tables::Tables;
 use terms::node::PlanId;
 
-impl Tables {
-    /// Whether two nodes stand in the book.
-    fn has_both(&self, a: PlanId, b: PlanId) -> bool
-        ensures { result ≡ (below (plan_count self.now) a.0 && below (plan_count self.now) b.0) }
-    {
-        self.has(a) && self.has(b)
-    }
+/// Whether two nodes stand in the book.
+fn has_both(tables: &Tables, a: PlanId, b: PlanId) -> bool
+    ensures { result ≡ (below (plan_count tables.now) a.0 && below (plan_count tables.now) b.0) }
+{
+    tables.has(a) && tables.has(b)
+}
 
-    /// Whether a node has an input at a position.
-    fn has_input(&self, p: PlanId, position: u32) -> bool
-        requires { p.0 < plan_count self.now }
-        ensures { result ≡ nat_lt position (length (inputs_at (model_of self.now) p.0)) }
-    {
-        position < self.input_count(p)
-    }
+/// Whether a node has an input at a position.
+fn has_input(tables: &Tables, p: PlanId, position: u32) -> bool
+    requires { p.0 < plan_count tables.now }
+    ensures { result ≡ nat_lt position (length (inputs_at (model_of tables.now) p.0)) }
+{
+    position < tables.input_count(p)
+}
 
-    /// A node like `node`, with `input` in place of its input at a position. Both inputs have one origin, and the new
-    /// node has the origin of `node`.
-    pub fn swap(&mut self, node: PlanId, position: u32, input: PlanId) -> Result<PlanId, Fault>
-        ensures { SwapAnswers (model_of self.old) node.0 position input.0 (answered_plan result) (model_of self.new) }
-    {
-        ask(self.has_both(node, input), Question::Present)?;
-        ask(self.has_input(node, position), Question::Bounded)?;
-        let old = self.input_at(node, position);
-        ask(self.same_origin(old, input), Question::SameOrigin)?;
-        let origin = self.record_of(node).origin;
-        let new = self.remake(node, position, input)?;
-        self.give_origin(new, origin);
-        Ok(new)
-    }
+/// A node like `node`, with `input` in place of its input at a position. Both inputs have one origin, and the new
+/// node has the origin of `node`.
+pub fn swap(tables: &mut Tables, node: PlanId, position: u32, input: PlanId) -> Result<PlanId, Fault>
+    ensures { SwapAnswers (model_of tables.old) node.0 position input.0 (answered_plan result) (model_of tables.new) }
+{
+    ask(has_both(tables, node, input), Question::Present)?;
+    ask(has_input(tables, node, position), Question::Bounded)?;
+    let old = tables.input_at(node, position);
+    ask(tables.same_origin(old, input), Question::SameOrigin)?;
+    let origin = tables.record_of(node).origin;
+    let new = remake(tables, node, position, input)?;
+    tables.give_origin(new, origin);
+    Ok(new)
 }

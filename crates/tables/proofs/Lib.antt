@@ -7,3 +7,4 @@ pub mod Answers
 pub mod Adding
 pub mod Origins
 pub mod Begun
+pub mod Lent

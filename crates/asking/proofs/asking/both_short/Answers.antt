@@ -4,7 +4,7 @@ use Rattle.plan.specs.Model.{exprs_in}
 use Rattle.terms.specs.Views.{numbers_of}
 use Rattle.terms.proofs.Walks.{every-both}
 use Rattle.tables.specs.Holding.{view_in}
-use Rattle.asking.proofs.Lent.{short-lent}
+use Rattle.tables.proofs.Lent.{short-lent}
 use Rattle.asking.proofs.asking.both_short.Goals as goal
 
 pub returns-then-has_short_names : goal.returns-then-has_short_names

@@ -1,6 +1,6 @@
 use Rattle.std.proofs.Common.{◌++◌, map, ap, ◌∙◌, rules}
 use Rattle.table.proofs.Pushes.{pushed-map}
-use Rattle.tables.proofs.copying.copied.Goals as goal
+use Rattle.swapping.proofs.copying.copied.Goals as goal
 
 pub returns : goal.returns
 returns g c =

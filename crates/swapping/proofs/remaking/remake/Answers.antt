@@ -7,7 +7,7 @@ use Rattle.plan.specs.declared.fault.Fault.{Fault}
 use Rattle.terms.specs.declared.node.PlanId.{PlanId}
 use Rattle.tables.specs.Holding.{view_in, trees_in, tree_in, fields_at, model_of, plan_count}
 use Rattle.tables.specs.Reading.{ReadsAs}
-use Rattle.tables.specs.Remaking.{TreeMade}
+use Rattle.swapping.specs.Remaking.{TreeMade}
 use Rattle.tables.specs.Stored.{build_plan_node, node_inputs, run_in, run_numbers}
 use Rattle.tables.specs.declared.node.NewNode.TheVariants.{Filter, Limit}
 use Rattle.tables.specs.declared.node.PlanNode.{PlanNode}
@@ -16,12 +16,12 @@ use Rattle.tables.specs.declared.node.PlanRecord.{PlanRecord}
 use Rattle.tables.specs.declared.tables.Tables.{Tables}
 use Rattle.tables.proofs.Inputs.{as-node, run_long}
 use Rattle.tables.proofs.PlanFrames.{below_more}
-use Rattle.tables.proofs.Remaking.{made-anew, set-one, set-left, set-right, join-left, join-right, swap-union, swap-made}
-use Rattle.tables.proofs.tables.Tables.remake.Goals as goal
+use Rattle.swapping.proofs.Remade.{made-anew, set-one, set-left, set-right, join-left, join-right, swap-union, swap-made}
+use Rattle.swapping.proofs.remaking.remake.Goals as goal
 
 pub remake_union-requires : goal.remake_union-requires
 remake_union-requires c =
-    let t = c.args.self.now in
+    let t = c.args.tables.now in
     let l = c.in-Union.inputs in
     let h = as-node t c.args.p.0 c.record_of.result (Union l) c.record_of.ensures c.in-Union.is in
     let in-run = and_parts (run_in (view_in t).entries l) _ h.inside in
@@ -44,45 +44,45 @@ module _ (t : Tables) (p k : ℕ) (j : PlanId) (x : PlanRecord) (h : ReadsAs t p
 
 pub returns-in-Projection : goal.returns-in-Projection
 returns-in-Projection c =
-    single c.args.self.now c.args.p.0 c.args.position c.args.input c.record_of.result c.record_of.ensures c.requires.position _ _ _ c.in-Projection.is refl refl _ _ c.remake_projection.ensures
+    single c.args.tables.now c.args.p.0 c.args.position c.args.input c.record_of.result c.record_of.ensures c.requires.position _ _ _ c.in-Projection.is refl refl _ _ c.remake_projection.ensures
 
 pub returns-in-Filter : goal.returns-in-Filter
 returns-in-Filter c =
-    single c.args.self.now c.args.p.0 c.args.position c.args.input c.record_of.result c.record_of.ensures c.requires.position _ _ _ c.in-Filter.is refl refl _ _
-    (made-anew c.args.self.now (Filter c.args.input c.in-Filter.predicate) _ _ tt refl refl c.make.result _ c.make.ensures.made)
+    single c.args.tables.now c.args.p.0 c.args.position c.args.input c.record_of.result c.record_of.ensures c.requires.position _ _ _ c.in-Filter.is refl refl _ _
+    (made-anew c.args.tables.now (Filter c.args.input c.in-Filter.predicate) _ _ tt refl refl c.make.result _ c.make.ensures.made)
 
 pub returns-in-Sort : goal.returns-in-Sort
 returns-in-Sort c =
-    single c.args.self.now c.args.p.0 c.args.position c.args.input c.record_of.result c.record_of.ensures c.requires.position _ _ _ c.in-Sort.is refl refl _ _ c.remake_sort.ensures
+    single c.args.tables.now c.args.p.0 c.args.position c.args.input c.record_of.result c.record_of.ensures c.requires.position _ _ _ c.in-Sort.is refl refl _ _ c.remake_sort.ensures
 
 pub returns-in-Limit : goal.returns-in-Limit
 returns-in-Limit c =
-    single c.args.self.now c.args.p.0 c.args.position c.args.input c.record_of.result c.record_of.ensures c.requires.position _ _ _ c.in-Limit.is refl refl _ _
-    (made-anew c.args.self.now (Limit c.args.input c.in-Limit.skip c.in-Limit.count) _ _ tt refl refl c.make-in-Limit.result _ c.make-in-Limit.ensures.made)
+    single c.args.tables.now c.args.p.0 c.args.position c.args.input c.record_of.result c.record_of.ensures c.requires.position _ _ _ c.in-Limit.is refl refl _ _
+    (made-anew c.args.tables.now (Limit c.args.input c.in-Limit.skip c.in-Limit.count) _ _ tt refl refl c.make-in-Limit.result _ c.make-in-Limit.ensures.made)
 
 pub returns-in-Aggregate : goal.returns-in-Aggregate
 returns-in-Aggregate c =
-    single c.args.self.now c.args.p.0 c.args.position c.args.input c.record_of.result c.record_of.ensures c.requires.position _ _ _ c.in-Aggregate.is refl refl _ _ c.remake_aggregate.ensures
+    single c.args.tables.now c.args.p.0 c.args.position c.args.input c.record_of.result c.record_of.ensures c.requires.position _ _ _ c.in-Aggregate.is refl refl _ _ c.remake_aggregate.ensures
 
 pub returns-in-SubqueryAlias : goal.returns-in-SubqueryAlias
 returns-in-SubqueryAlias c =
-    single c.args.self.now c.args.p.0 c.args.position c.args.input c.record_of.result c.record_of.ensures c.requires.position _ _ _ c.in-SubqueryAlias.is refl refl _ _ c.remake_alias.ensures
+    single c.args.tables.now c.args.p.0 c.args.position c.args.input c.record_of.result c.record_of.ensures c.requires.position _ _ _ c.in-SubqueryAlias.is refl refl _ _ c.remake_alias.ensures
 
 pub returns-then-position-eq0 : goal.returns-then-position-eq0
 returns-then-position-eq0 c =
-    let t = c.args.self.now in
+    let t = c.args.tables.now in
     let h = as-node t c.args.p.0 c.record_of.result _ c.record_of.ensures c.in-Join.is in
     swap-made t c.args.p.0 c.args.position c.args.input.0 _ _ _ h (join-left _ _ _ _ _ _ c.if-position-eq0.true) (set-left _ _ _ _ c.if-position-eq0.true) _ _ c.remake_join.ensures
 
 pub returns-else-position-eq0 : goal.returns-else-position-eq0
 returns-else-position-eq0 c =
-    let t = c.args.self.now in
+    let t = c.args.tables.now in
     let h = as-node t c.args.p.0 c.record_of.result _ c.record_of.ensures c.in-Join.is in
     swap-made t c.args.p.0 c.args.position c.args.input.0 _ _ _ h (join-right _ _ _ _ _ _ c.if-position-eq0.false) (set-right _ _ _ _ c.if-position-eq0.false (omega (arith, c.requires.position, ap length h.inputs))) _ _ c.remake_join-else-position-eq0.ensures
 
 pub returns-in-Union : goal.returns-in-Union
 returns-in-Union c =
-    let t = c.args.self.now in
+    let t = c.args.tables.now in
     let l = c.in-Union.inputs in
     let h = as-node t c.args.p.0 c.record_of.result (Union l) c.record_of.ensures c.in-Union.is in
     swap-made t c.args.p.0 c.args.position c.args.input.0 (Union l) _ _ h (swap-union (trees_in t) (run_numbers (view_in t).entries l) c.args.position c.args.input.0 (omega (arith, c.requires.position, ap length h.inputs))) refl _ _ c.remake_union.ensures

@@ -6,18 +6,19 @@ use Rattle.names.specs.Spans.{word}
 use Rattle.terms.proofs.Bounds.{name-short}
 use Rattle.tables.specs.Holding.{view_in, tree_in}
 use Rattle.tables.specs.declared.node.NewNode.TheVariants.{SubqueryAlias}
-use Rattle.tables.proofs.Remaking.{made-anew}
-use Rattle.tables.proofs.tables.Tables.remake_alias.Goals as goal
+use Rattle.tables.proofs.Lent.{word-lent}
+use Rattle.swapping.proofs.Remade.{made-anew}
+use Rattle.swapping.proofs.remaking.remake_alias.Goals as goal
 
 pub copy_name-own-requires : goal.copy_name-own-requires
-copy_name-own-requires c = omega (arith, ap length c.word.ensures, name-short (word (view_in c.args.self.now).bytes c.args.name) c.requires.good)
+copy_name-own-requires c = omega (arith, ap length (word-lent c.args.tables.now _ c.terms.ensures c.args.name _ c.word.ensures), name-short (word (view_in c.args.tables.now).bytes c.args.name) c.requires.good)
 
 pub make-requires : goal.make-requires
 make-requires c =
-    record { present = lt-ltb _ _ c.requires.input; bounded = refl; named = ap good_name (c.as_slice.ensures ∙ c.copy_name-own.ensures ∙ c.word.ensures) ∙ c.requires.good }
+    record { present = lt-ltb _ _ c.requires.input; bounded = refl; named = ap good_name (c.as_slice.ensures ∙ c.copy_name-own.ensures ∙ (word-lent c.args.tables.now _ c.terms.ensures c.args.name _ c.word.ensures)) ∙ c.requires.good }
 
 pub returns : goal.returns
 returns c =
-    let t = c.args.self.now in
+    let t = c.args.tables.now in
     made-anew t (SubqueryAlias c.args.input c.as_slice.result) _ _ tt
-    (ap (λ n. subquery_alias n (tree_in t c.args.input.0)) (c.as_slice.ensures ∙ c.copy_name-own.ensures ∙ c.word.ensures)) refl c.make.result _ c.make.ensures.made
+    (ap (λ n. subquery_alias n (tree_in t c.args.input.0)) (c.as_slice.ensures ∙ c.copy_name-own.ensures ∙ (word-lent c.args.tables.now _ c.terms.ensures c.args.name _ c.word.ensures))) refl c.make.result _ c.make.ensures.made

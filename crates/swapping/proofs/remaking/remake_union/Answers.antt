@@ -13,18 +13,19 @@ use Rattle.tables.specs.Making.{input_numbers}
 use Rattle.tables.specs.Stored.{run_in, run_numbers}
 use Rattle.tables.specs.declared.node.NewNode.TheVariants.{Union}
 use Rattle.terms.specs.declared.node.Run.{Run}
-use Rattle.tables.proofs.Remaking.{copy-long, inputs-copied, below_set, made-anew}
-use Rattle.tables.proofs.tables.Tables.remake_union.Goals as goal
+use Rattle.tables.proofs.Lent.{entries-lent}
+use Rattle.swapping.proofs.Remade.{copy-long, inputs-copied, below_set, made-anew}
+use Rattle.swapping.proofs.remaking.remake_union.Goals as goal
 
 pub copied-own-requires : goal.copied-own-requires
 copied-own-requires c =
     let l = c.args.inputs in
-    omega (arith, ap length c.entries.ensures, length_part (view_in c.args.self.now).entries l.first l.count (leb-true _ _ c.requires.run), leb-true _ _ (and_parts (leb 1 l.count) (leb l.count 8) c.requires.few).1)
+    omega (arith, ap length (entries-lent c.args.tables.now _ c.terms.ensures c.args.inputs _ c.entries.ensures), length_part (view_in c.args.tables.now).entries l.first l.count (leb-true _ _ c.requires.run), leb-true _ _ (and_parts (leb 1 l.count) (leb l.count 8) c.requires.few).1)
 
 pub set-requires : goal.set-requires
 set-requires c =
-    let e = c.copied-own.ensures ∙ ap (map input_of) c.entries.ensures in
-    (lit< tt, omega (arith, c.requires.position, copy-long (view_in c.args.self.now) c.args.inputs input_of c.copied-own.result e c.requires.run))
+    let e = c.copied-own.ensures ∙ ap (map input_of) (entries-lent c.args.tables.now _ c.terms.ensures c.args.inputs _ c.entries.ensures) in
+    (lit< tt, omega (arith, c.requires.position, copy-long (view_in c.args.tables.now) c.args.inputs input_of c.copied-own.result e c.requires.run))
 
 -- the numbers that are lent, and how many there are
 lent : (v : View) (l : Run) (xs ys : List PlanId) (k : ℕ) (i : PlanId) → xs ≡ map input_of (part v.entries l.first l.count) → run_in v.entries l ≡ true → ys ≡ set xs k i
@@ -34,9 +35,9 @@ lent v l xs ys k i e h s =
 
 pub make-requires : goal.make-requires
 make-requires c =
-    let t = c.args.self.now in
+    let t = c.args.tables.now in
     let l = c.args.inputs in
-    let x = lent (view_in t) l c.copied-own.result _ c.args.position c.args.input (c.copied-own.ensures ∙ ap (map input_of) c.entries.ensures) c.requires.run (c.as_slice.ensures ∙ c.set.ensures) in
+    let x = lent (view_in t) l c.copied-own.result _ c.args.position c.args.input (c.copied-own.ensures ∙ ap (map input_of) (entries-lent c.args.tables.now _ c.terms.ensures c.args.inputs _ c.entries.ensures)) c.requires.run (c.as_slice.ensures ∙ c.set.ensures) in
     record {
       present = ap (all_below (plan_count t)) x.0 ∙ below_set (plan_count t) (run_numbers (view_in t).entries l) c.args.position c.args.input.0 c.requires.input c.requires.present;
       bounded = ap (between 1 8) x.1 ∙ c.requires.few;
@@ -45,7 +46,7 @@ make-requires c =
 
 pub returns : goal.returns
 returns c =
-    let t = c.args.self.now in
+    let t = c.args.tables.now in
     let l = c.args.inputs in
-    let x = lent (view_in t) l c.copied-own.result _ c.args.position c.args.input (c.copied-own.ensures ∙ ap (map input_of) c.entries.ensures) c.requires.run (c.as_slice.ensures ∙ c.set.ensures) in
+    let x = lent (view_in t) l c.copied-own.result _ c.args.position c.args.input (c.copied-own.ensures ∙ ap (map input_of) (entries-lent c.args.tables.now _ c.terms.ensures c.args.inputs _ c.entries.ensures)) c.requires.run (c.as_slice.ensures ∙ c.set.ensures) in
     made-anew t (Union c.as_slice.result) _ _ tt (ap (λ ns. union_of (plans_in (trees_in t) ns)) x.0) x.0 c.make.result _ c.make.ensures.made

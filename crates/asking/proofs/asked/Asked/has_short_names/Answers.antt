@@ -1,6 +1,6 @@
 use Rattle.std.proofs.Common.{◌∙◌, rules}
 use Rattle.terms.specs.Views.{numbers_of}
-use Rattle.asking.proofs.Lent.{short-lent}
+use Rattle.tables.proofs.Lent.{short-lent}
 use Rattle.asking.proofs.asked.Asked.has_short_names.Goals as goal
 
 pub returns-in-Projection : goal.returns-in-Projection

@@ -6,7 +6,7 @@ use Rattle.plan.specs.Questions.{shown_expressions}
 use Rattle.terms.specs.Views.{numbers_of}
 use Rattle.tables.specs.Holding.{view_in}
 use Rattle.tables.specs.Making.{tree_for}
-use Rattle.asking.proofs.Lent.{rendered-lent}
+use Rattle.tables.proofs.Lent.{rendered-lent}
 use Rattle.asking.proofs.asked.Asked.rendered_bytes.Goals as goal
 
 pub returns-in-Aggregate : goal.returns-in-Aggregate

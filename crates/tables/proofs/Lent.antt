@@ -1,10 +1,15 @@
--- The terms of the tables, lent: what a call says of them, it says of the tables.
+-- The terms of the tables, lent: what a call says of them, it says of the tables; cited by the crates above.
 use Rattle.std.proofs.Common.{◌≡◌, ℕ, true, List, length, sum_by, ap, ◌∙◌, subst}
+use Rattle.table.specs.Contents.{part}
 use Rattle.plan.specs.Fields.{every}
 use Rattle.plan.specs.Questions.{short_name}
 use Rattle.plan.specs.Model.{exprs_in}
 use Rattle.plan.specs.Calls.{all_below, rendered_bytes}
+use Rattle.names.specs.Spans.{word}
+use Rattle.names.specs.declared.parts.Span.{Span}
 use Rattle.terms.specs.Views.{count, view_of}
+use Rattle.terms.specs.declared.node.Entry.{Entry}
+use Rattle.terms.specs.declared.node.Run.{Run}
 use Rattle.terms.specs.declared.terms.Terms.{Terms}
 use Rattle.draft.specs.Drafts.{FieldsFor}
 use Rattle.draft.specs.declared.word.DraftField.{DraftField}
@@ -23,3 +28,9 @@ module _ (t : Tables) (s : Terms) (e : s ≡ t.terms) where
 
   pub fields-lent : (ns : List ℕ) (b a : List DraftField) → FieldsFor (view_of s) (exprs_in (view_of s).trees ns) b a → FieldsFor (view_in t) (exprs_in (view_in t).trees ns) b a
   fields-lent ns b a h = subst (λ x. FieldsFor (view_of x) (exprs_in (view_of x).trees ns) b a) e h
+
+  pub entries-lent : (l : Run) (es : List Entry) → es ≡ part (view_of s).entries l.first l.count → es ≡ part (view_in t).entries l.first l.count
+  entries-lent l es h = h ∙ ap (λ x. part (view_of x).entries l.first l.count) e
+
+  pub word-lent : (p : Span) (w : List ℕ) → w ≡ word (view_of s).bytes p → w ≡ word (view_in t).bytes p
+  word-lent p w h = h ∙ ap (λ x. word (view_of x).bytes p) e

@@ -24,7 +24,7 @@ use Rattle.terms.specs.declared.node.PlanId.{PlanId}
 use Rattle.tables.specs.Keys.{key_of}
 use Rattle.tables.specs.Holding.{view_in, trees_in, tree_in, fields_at, model_of, plan_count}
 use Rattle.tables.specs.Making.{new_key, key_numbers, input_numbers, tree_over, tree_for, inputs_for, entries_for, bytes_for, outlay_for, node_questions, NodeMade}
-use Rattle.tables.specs.Remaking.{tree_asked, TreeMade}
+use Rattle.swapping.specs.Remaking.{tree_asked, TreeMade}
 use Rattle.tables.specs.Stored.{build_plan_node, node_inputs, key_at, run_in, run_numbers, run_exprs, run_keys, list_in}
 use Rattle.terms.specs.declared.node.Run.{Run}
 use Rattle.tables.specs.declared.node.PlanNode.{PlanNode}
@@ -32,7 +32,7 @@ use Rattle.tables.specs.declared.node.NewNode.{NewNode}
 use Rattle.tables.specs.declared.node.NewNode.TheVariants.{Table, Projection, Filter, Sort, Limit, Aggregate, Join, SubqueryAlias, Union}
 use Rattle.tables.specs.declared.node.SortKey.{SortKey}
 use Rattle.tables.specs.declared.tables.Tables.{Tables}
-use Rattle.tables.proofs.NodeFacts.{exprs-length}
+use Rattle.asking.proofs.NodeFacts.{exprs-length}
 use Rattle.tables.proofs.Inputs.{NodeReads, tree-at}
 
 -- copies name what the entries name
