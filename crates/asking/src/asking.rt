@@ -22,13 +22,19 @@ use terms::node::{ExprId, PlanId, StoredField};
 // node that its inputs and expressions are there; these take parts of it.
 
 /// Whether every reference of some expressions resolves among the fields of one or two inputs.
-fn all_resolved(tables: &Tables, left: &[StoredField], right: &[StoredField], ids: &[ExprId]) -> bool
+fn all_resolved(
+    tables: &Tables,
+    left: &[StoredField],
+    right: &[StoredField],
+    ids: &[ExprId],
+) -> bool
     requires left { every (stored_in (view_in tables.now).bytes) left.now ≡ true }
     requires right { every (stored_in (view_in tables.now).bytes) right.now ≡ true }
     requires present { all_below (length (view_in tables.now).trees) (numbers_of ids.now) ≡ true }
     ensures { result ≡ every (resolved (map (stored_field (view_in tables.now).bytes) left.now ++ map (stored_field (view_in tables.now).bytes) right.now)) (exprs_in (view_in tables.now).trees (numbers_of ids.now)) }
 {
-    ids.iter().all(|id| tables.terms().resolved(left, right, *id))
+    ids.iter()
+        .all(|id| tables.terms().resolved(left, right, *id))
 }
 
 /// Whether every reference of an expression resolves over an input.

@@ -9,6 +9,7 @@ ghost use Rattle.plan.specs.Names.{good_name};
 ghost use Rattle.terms.specs.Views.{numbers_of};
 ghost use Rattle.std.specs.Prelude.{◌≡◌, true, ◌&&◌, length, nat_le};
 
+use asking::making::make;
 use names::good_name;
 use names::parts::{count_names, good_names};
 use plan::fault::{Fault, Question, ask};
@@ -54,7 +55,7 @@ pub fn table<'x>(tables: &mut Tables, qualifier: &'x [u8], names: &'x [u8]) -> R
 {
     ask(good_table(qualifier, names), Question::Named)?;
     ask(few_names(names), Question::Bounded)?;
-    tables.make(NewNode::Table { qualifier, names })
+    make(tables, NewNode::Table { qualifier, names })
 }
 
 /// A Projection of 1 to 64 expressions.
@@ -64,7 +65,7 @@ pub fn projection(tables: &mut Tables, input: PlanId, list: &[ExprId]) -> Result
     ask(has_list(tables, input, list), Question::Present)?;
     ask(is_count(1, 64, list.len()), Question::Bounded)?;
     ask(!tables.any_total(list), Question::Placed)?;
-    tables.make(NewNode::Projection { input, list })
+    make(tables, NewNode::Projection { input, list })
 }
 
 /// A Filter: the rows where the predicate is true.
@@ -73,7 +74,7 @@ pub fn filter(tables: &mut Tables, input: PlanId, predicate: ExprId) -> Result<P
 {
     ask(has_expr(tables, input, predicate), Question::Present)?;
     ask(!tables.is_total(predicate), Question::Placed)?;
-    tables.make(NewNode::Filter { input, predicate })
+    make(tables, NewNode::Filter { input, predicate })
 }
 
 /// A Limit: so many rows are skipped, and then at most so many kept.
@@ -81,7 +82,7 @@ pub fn limit(tables: &mut Tables, input: PlanId, skip: u32, count: u32) -> Resul
     ensures { Answers (model_of tables.old) (make_limit input.0 skip count) (answered_plan result) (model_of tables.new) }
 {
     ask(tables.has(input), Question::Present)?;
-    tables.make(NewNode::Limit { input, skip, count })
+    make(tables, NewNode::Limit { input, skip, count })
 }
 
 /// A SubqueryAlias: its name qualifies every field.
@@ -90,5 +91,5 @@ pub fn subquery_alias(tables: &mut Tables, input: PlanId, name: &[u8]) -> Result
 {
     ask(tables.has(input), Question::Present)?;
     ask(good_name(name), Question::Named)?;
-    tables.make(NewNode::SubqueryAlias { input, name })
+    make(tables, NewNode::SubqueryAlias { input, name })
 }

@@ -13,6 +13,7 @@ ghost use Rattle.plan.specs.Model.{exprs_in, plans_in};
 ghost use Rattle.terms.specs.Views.{numbers_of};
 
 use crate::nodes::is_count;
+use asking::making::make;
 use plan::code::{Direction, JoinKind, UnknownCode};
 use plan::fault::{Fault, Question, ask};
 use table::table::Table;
@@ -65,11 +66,14 @@ pub fn aggregate<'x>(
     ask(has_lists(tables, input, groups, totals), Question::Present)?;
     ask(are_few(groups.len(), totals.len()), Question::Bounded)?;
     ask(are_placed(tables, groups, totals), Question::Placed)?;
-    tables.make(NewNode::Aggregate {
-        input,
-        groups,
-        totals,
-    })
+    make(
+        tables,
+        NewNode::Aggregate {
+            input,
+            groups,
+            totals,
+        },
+    )
 }
 
 /// Whether two nodes and some expressions stand in the book.
@@ -94,12 +98,15 @@ pub fn join(
     let kind = JoinKind::try_from(kind)?;
     ask(on.len() <= 16, Question::Bounded)?;
     ask(!tables.any_total(on), Question::Placed)?;
-    tables.make(NewNode::Join {
-        kind,
-        left,
-        right,
-        on,
-    })
+    make(
+        tables,
+        NewNode::Join {
+            kind,
+            left,
+            right,
+            on,
+        },
+    )
 }
 
 /// Whether some nodes stand in the book.
@@ -140,7 +147,7 @@ pub fn union(tables: &mut Tables, inputs: &[PlanId]) -> Result<PlanId, Fault>
 {
     ask(has_inputs(tables, inputs), Question::Present)?;
     ask(are_alike(tables, inputs), Question::Bounded)?;
-    tables.make(NewNode::Union { inputs })
+    make(tables, NewNode::Union { inputs })
 }
 
 /// The keys with their directions, if each has one.
@@ -190,8 +197,11 @@ pub fn sort(tables: &mut Tables, input: PlanId, keys: &[Key]) -> Result<PlanId, 
     ask(is_count(1, 16, keys.len()), Question::Bounded)?;
     let given = sort_keys(keys)?;
     ask(!any_key_total(tables, keys), Question::Placed)?;
-    tables.make(NewNode::Sort {
-        input,
-        keys: given.as_slice(),
-    })
+    make(
+        tables,
+        NewNode::Sort {
+            input,
+            keys: given.as_slice(),
+        },
+    )
 }

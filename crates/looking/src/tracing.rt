@@ -31,7 +31,8 @@ fn any_aliased(tables: &Tables, list: Run, name: &[u8]) -> bool
     requires { list_in (view_in tables.now) list ≡ true }
     ensures { result ≡ any (aliased name.now) (run_exprs (view_in tables.now) list) }
 {
-    tables.terms()
+    tables
+        .terms()
         .entries(list)
         .iter()
         .any(|entry| is_aliased(tables, ExprId::read(*entry), name))

@@ -28,10 +28,13 @@ fn remake_projection(tables: &mut Tables, input: PlanId, list: Run) -> Result<Pl
     ensures { TreeMade (model_of tables.old) (projection (run_exprs (view_in tables.old) list) (tree_in tables.old input.0)) (input.0 ∷ []) result (model_of tables.new) }
 {
     let own: Table<ExprId, 64> = copied(tables.terms().entries(list));
-    make(tables, NewNode::Projection {
-        input,
-        list: own.as_slice(),
-    })
+    make(
+        tables,
+        NewNode::Projection {
+            input,
+            list: own.as_slice(),
+        },
+    )
 }
 
 fn remake_sort(tables: &mut Tables, input: PlanId, keys: Run) -> Result<PlanId, Fault>
@@ -41,13 +44,21 @@ fn remake_sort(tables: &mut Tables, input: PlanId, keys: Run) -> Result<PlanId, 
     ensures { TreeMade (model_of tables.old) (sort (run_keys (view_in tables.old) keys) (tree_in tables.old input.0)) (input.0 ∷ []) result (model_of tables.new) }
 {
     let own: Table<SortKey, 16> = copied(tables.terms().entries(keys));
-    make(tables, NewNode::Sort {
-        input,
-        keys: own.as_slice(),
-    })
+    make(
+        tables,
+        NewNode::Sort {
+            input,
+            keys: own.as_slice(),
+        },
+    )
 }
 
-fn remake_aggregate(tables: &mut Tables, input: PlanId, groups: Run, totals: Run) -> Result<PlanId, Fault>
+fn remake_aggregate(
+    tables: &mut Tables,
+    input: PlanId,
+    groups: Run,
+    totals: Run,
+) -> Result<PlanId, Fault>
     requires input { input.0 < plan_count tables.old }
     requires groups { list_in (view_in tables.old) groups ≡ true }
     requires totals { list_in (view_in tables.old) totals ≡ true }
@@ -56,11 +67,14 @@ fn remake_aggregate(tables: &mut Tables, input: PlanId, groups: Run, totals: Run
 {
     let by: Table<ExprId, 16> = copied(tables.terms().entries(groups));
     let of: Table<ExprId, 16> = copied(tables.terms().entries(totals));
-    make(tables, NewNode::Aggregate {
-        input,
-        groups: by.as_slice(),
-        totals: of.as_slice(),
-    })
+    make(
+        tables,
+        NewNode::Aggregate {
+            input,
+            groups: by.as_slice(),
+            totals: of.as_slice(),
+        },
+    )
 }
 
 // The kind and both sides come as the node has them: a struct of the three would be made at each call.
@@ -78,12 +92,15 @@ fn remake_join(
     ensures { TreeMade (model_of tables.old) (join kind (run_exprs (view_in tables.old) on) (tree_in tables.old left.0) (tree_in tables.old right.0)) (left.0 ∷ right.0 ∷ []) result (model_of tables.new) }
 {
     let own: Table<ExprId, 16> = copied(tables.terms().entries(on));
-    make(tables, NewNode::Join {
-        kind,
-        left,
-        right,
-        on: own.as_slice(),
-    })
+    make(
+        tables,
+        NewNode::Join {
+            kind,
+            left,
+            right,
+            on: own.as_slice(),
+        },
+    )
 }
 
 fn remake_alias(tables: &mut Tables, input: PlanId, name: Span) -> Result<PlanId, Fault>
@@ -93,13 +110,21 @@ fn remake_alias(tables: &mut Tables, input: PlanId, name: Span) -> Result<PlanId
     ensures { TreeMade (model_of tables.old) (subquery_alias (word (view_in tables.old).bytes name) (tree_in tables.old input.0)) (input.0 ∷ []) result (model_of tables.new) }
 {
     let own = copy_name(tables.terms().word(name));
-    make(tables, NewNode::SubqueryAlias {
-        input,
-        name: own.as_slice(),
-    })
+    make(
+        tables,
+        NewNode::SubqueryAlias {
+            input,
+            name: own.as_slice(),
+        },
+    )
 }
 
-fn remake_union(tables: &mut Tables, inputs: Run, position: u32, input: PlanId) -> Result<PlanId, Fault>
+fn remake_union(
+    tables: &mut Tables,
+    inputs: Run,
+    position: u32,
+    input: PlanId,
+) -> Result<PlanId, Fault>
     requires run { run_in (view_in tables.old).entries inputs ≡ true }
     requires present { all_below (plan_count tables.old) (run_numbers (view_in tables.old).entries inputs) ≡ true }
     requires few { between 1 8 inputs.count ≡ true }
@@ -109,9 +134,12 @@ fn remake_union(tables: &mut Tables, inputs: Run, position: u32, input: PlanId) 
 {
     let mut own: Table<PlanId, 8> = copied(tables.terms().entries(inputs));
     own.set(position as usize, input);
-    make(tables, NewNode::Union {
-        inputs: own.as_slice(),
-    })
+    make(
+        tables,
+        NewNode::Union {
+            inputs: own.as_slice(),
+        },
+    )
 }
 
 /// A node like `p`, with `input` in place of its input at a position; a Table has none.

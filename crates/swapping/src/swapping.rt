@@ -28,7 +28,12 @@ fn has_input(tables: &Tables, p: PlanId, position: u32) -> bool
 
 /// A node like `node`, with `input` in place of its input at a position. Both inputs have one origin, and the new
 /// node has the origin of `node`.
-pub fn swap(tables: &mut Tables, node: PlanId, position: u32, input: PlanId) -> Result<PlanId, Fault>
+pub fn swap(
+    tables: &mut Tables,
+    node: PlanId,
+    position: u32,
+    input: PlanId,
+) -> Result<PlanId, Fault>
     ensures { SwapAnswers (model_of tables.old) node.0 position input.0 (answered_plan result) (model_of tables.new) }
 {
     ask(has_both(tables, node, input), Question::Present)?;

@@ -6,6 +6,7 @@ ghost use Rattle.tables.specs.Answering.{answered_plan};
 
 use super::OpenBook;
 use plan::fault::Fault;
+use swapping::swapping::swap;
 use terms::node::PlanId;
 
 impl OpenBook {
@@ -14,6 +15,6 @@ impl OpenBook {
     pub fn swap(&mut self, node: PlanId, position: u32, input: PlanId) -> Result<PlanId, Fault>
         ensures { Answers (book_of self.old) (swap_request node.0 position input.0) (answered_plan result) (book_of self.new) }
     {
-        self.tables.swap(node, position, input)
+        swap(&mut self.tables, node, position, input)
     }
 }
