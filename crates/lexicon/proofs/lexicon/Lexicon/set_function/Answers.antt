@@ -1,11 +1,10 @@
 use Rattle.std.proofs.Common.{Some, ap, ◌∙◌}
 use Rattle.std.proofs.lemmas.List.{length-set, map-set}
 use Rattle.plan.specs.Fields.{every}
-use Rattle.terms.specs.Acceptance.{good_function}
-use Rattle.terms.specs.Lexicon.{functions_of, text_of}
-use Rattle.terms.specs.Spans.{function_in, declaration_in}
-use Rattle.terms.proofs.Frames.{every_set}
-use Rattle.terms.proofs.lexicon.Lexicon.set_function.Goals as goal
+use Rattle.lexicon.specs.Declarations.{good_function, function_in, declaration_in}
+use Rattle.lexicon.specs.Lexicon.{functions_of, text_of}
+use Rattle.lexicon.proofs.Frames.{every_set}
+use Rattle.lexicon.proofs.lexicon.Lexicon.set_function.Goals as goal
 
 pub invariant_of-self : goal.invariant_of-self
 invariant_of-self c =

@@ -1,9 +1,8 @@
 use Rattle.std.proofs.Common.{length, ap, ◌∙◌, arith, length-append}
 use Rattle.plan.specs.Fields.{every}
-use Rattle.terms.specs.Acceptance.{good_function}
-use Rattle.terms.specs.Spans.{functions_in, declaration_in}
-use Rattle.terms.proofs.Frames.{functions-grow}
-use Rattle.terms.proofs.lexicon.Lexicon.write.Goals as goal
+use Rattle.lexicon.specs.Declarations.{good_function, functions_in, declaration_in}
+use Rattle.lexicon.proofs.Frames.{functions-grow}
+use Rattle.lexicon.proofs.lexicon.Lexicon.write.Goals as goal
 
 pub invariant_of-self : goal.invariant_of-self
 invariant_of-self c =

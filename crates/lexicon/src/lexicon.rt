@@ -1,10 +1,9 @@
 //! The declared functions and the text; the methods stand below, so that they can cite `specs/Lexicon.antt`.
 ghost use Rattle.plan.specs.Fields.{every};
-ghost use Rattle.terms.specs.Acceptance.{good_function};
-ghost use Rattle.terms.specs.Spans.{declaration_in, functions_in};
+ghost use Rattle.lexicon.specs.Declarations.{good_function, declaration_in, functions_in};
 ghost use Rattle.std.specs.Prelude.{◌≡◌, ◌≤◌, true, length};
 
-use crate::node::Declaration;
+use crate::declaration::Declaration;
 use table::table::Table;
 
 mod declaring;

@@ -7,8 +7,8 @@ use Rattle.plan.specs.Declaring.{declare_asked, declared_as, with_function}
 use Rattle.plan.specs.Faults.{Asked, Settled}
 use Rattle.plan.specs.declared.fault.Fault.{Fault}
 use Rattle.plan.specs.declared.fault.Question.TheVariants.{Space}
-use Rattle.terms.specs.Lexicon.{Declared, functions_of, text_of}
-use Rattle.terms.specs.declared.lexicon.Lexicon.{Lexicon}
+use Rattle.lexicon.specs.Lexicon.{Declared, functions_of, text_of}
+use Rattle.lexicon.specs.declared.lexicon.Lexicon.{Lexicon}
 
 abbrev pub all_declare_asked : Lexicon → ℕ → Name → ℕ → ℕ → List Asked
 all_declare_asked x n name arity rule = declare_asked (functions_of x) n name arity rule ++ (Space, nat_le (length (text_of x) + length name) 16384) ∷ []

@@ -2,8 +2,8 @@
 --     text_of x, functions_of x      its bytes; the declarations under their numbers
 use Rattle.std.specs.Prelude.{◌≡◌, ℕ, List, ◌++◌}
 use Rattle.plan.specs.Functions.{Functions}
-use Rattle.terms.specs.Spans.{functions_in}
-use Rattle.terms.specs.declared.lexicon.Lexicon.{Lexicon}
+use Rattle.lexicon.specs.Declarations.{functions_in}
+use Rattle.lexicon.specs.declared.lexicon.Lexicon.{Lexicon}
 
 abbrev pub text_of : Lexicon → List ℕ
 text_of x = x.text

@@ -1,13 +1,14 @@
 //! How text is written and read, and how functions are found.
 ghost use Rattle.std.specs.Prelude.{◌≡◌, ◌+◌, ◌<◌, ◌≤◌, true, [], ◌++◌, length, replicate, None};
 ghost use Rattle.plan.specs.Functions.{function_at};
-ghost use Rattle.terms.specs.Begun.{LexiconBegins, SameLexicon};
-ghost use Rattle.terms.specs.Lexicon.{functions_of, text_of};
-ghost use Rattle.terms.specs.Spans.{declaration_in, function_in};
+ghost use Rattle.lexicon.specs.Begun.{LexiconBegins, SameLexicon};
+ghost use Rattle.lexicon.specs.Lexicon.{functions_of, text_of};
+ghost use Rattle.lexicon.specs.Declarations.{declaration_in, function_in};
 ghost use Rattle.names.specs.Spans.{span_in, word};
 
 use super::Lexicon;
-use crate::node::{Declaration, Span};
+use crate::declaration::Declaration;
+use names::parts::Span;
 use table::table::Table;
 
 impl Lexicon {
@@ -40,7 +41,7 @@ impl Lexicon {
     }
 
     /// Forgets all text but the first `len` bytes.
-    pub(crate) fn back_to(&mut self, len: usize)
+    pub fn back_to(&mut self, len: usize)
         requires { (x : Lexicon) × (len ≡ length (text_of x)) × LexiconBegins x self.old }
         ensures { (x : Lexicon) → len ≡ length (text_of x) → LexiconBegins x self.old → SameLexicon x self.new }
     {

@@ -2,14 +2,13 @@
 ghost use Rattle.std.specs.Prelude.{◌≡◌, ◌+◌, ◌<◌, true, not, ◌&&◌, length, is_some, Some, nat_le, nat_lt, slice_set};
 ghost use Rattle.plan.specs.Functions.{function_at};
 ghost use Rattle.plan.specs.Names.{good_name, prefixed};
-ghost use Rattle.terms.specs.Acceptance.{good_function};
-ghost use Rattle.terms.specs.Declaring.{DeclareAnswered};
-ghost use Rattle.terms.specs.Lexicon.{functions_of, text_of};
-ghost use Rattle.terms.specs.Spans.{function_in};
+ghost use Rattle.lexicon.specs.Declarations.{good_function, function_in};
+ghost use Rattle.lexicon.specs.Declaring.{DeclareAnswered};
+ghost use Rattle.lexicon.specs.Lexicon.{functions_of, text_of};
 ghost use Rattle.names.specs.Spans.{span_in};
 
 use super::Lexicon;
-use crate::node::Declaration;
+use crate::declaration::Declaration;
 use names::{good_name, is_prefixed};
 use plan::code::Rule;
 use plan::fault::{Fault, Question, ask};
