@@ -9,21 +9,21 @@ use Rattle.terms.specs.Views.{view_of}
 use Rattle.terms.specs.declared.node.Entry.{Entry}
 use Rattle.terms.specs.declared.node.Entry.TheVariants.{Expression}
 use Rattle.terms.proofs.Walks.{listed_lower, resolved-arguments}
-use Rattle.terms.proofs.terms.Terms.+resolved.Goals as goal
+use Rattle.naming.proofs.resolving.+resolved.Goals as goal
 
 abbrev blank : Entry
 blank = Expression (record { 0 = 0 })
 
 pub resolved-requires-in-loop-entry : goal.resolved-requires-in-loop-entry
 resolved-requires-in-loop-entry t c =
-    let v = view_of c.args.self.now in
+    let v = view_of c.args.terms.now in
     let l = listed_lower v.bytes v.entries c.entries-listed.result.now c.args.e.0 c.in-Call.function c.in-Call.arguments c.loop-entry.entry-index blank c.in-Call.ensures.inside c.entries-listed.ensures c.loop-entry-test.true in
     let e = ap (λ x. x.0) c.read.ensures in
     (omega (arith, l, e, c.decreases), (c.requires.left, (c.requires.right, omega (arith, l, e, c.requires.present))))
 
 pub returns-then-not-resolved : goal.returns-then-not-resolved
 returns-then-not-resolved t c =
-    let v = view_of c.args.self.now in
+    let v = view_of c.args.terms.now in
     let fs = map (stored_field v.bytes) c.args.left.now ++ map (stored_field v.bytes) c.args.right.now in
     let xs = c.entries-listed.result.now in
     let i = c.loop-entry.entry-index in
@@ -33,7 +33,7 @@ returns-then-not-resolved t c =
 
 pub loop-entry-preserved : goal.loop-entry-preserved
 loop-entry-preserved t c =
-    let v = view_of c.args.self.now in
+    let v = view_of c.args.terms.now in
     let fs = map (stored_field v.bytes) c.args.left.now ++ map (stored_field v.bytes) c.args.right.now in
     let xs = c.entries-listed.result.now in
     let i = c.loop-entry.entry-index in
@@ -42,7 +42,7 @@ loop-entry-preserved t c =
 
 pub returns-after-loop-entry : goal.returns-after-loop-entry
 returns-after-loop-entry t c =
-    let v = view_of c.args.self.now in
+    let v = view_of c.args.terms.now in
     let fs = map (stored_field v.bytes) c.args.left.now ++ map (stored_field v.bytes) c.args.right.now in
     let xs = c.entries-listed.result.now in
     sym (ap (resolved fs) c.in-Call.ensures.tree ∙ resolved-arguments fs (map (expr_in v.trees) (numbers_in v.entries c.in-Call.arguments.first c.in-Call.arguments.count)) ∙ ap (λ l. every (resolved fs) (map (expr_in v.trees) (map entry_number l))) (sym c.entries-listed.ensures)

@@ -13,7 +13,7 @@ use Rattle.terms.specs.declared.node.ExprId.{ExprId}
 use Rattle.terms.specs.declared.terms.Terms.{Terms}
 use Rattle.terms.proofs.Walks.{listed_lower}
 use Rattle.terms.proofs.Rendered.{all_more, argument-fits, call_fits, opened-length, closed}
-use Rattle.terms.proofs.terms.Terms.+render.Goals as goal
+use Rattle.naming.proofs.rendering.+render.Goals as goal
 
 abbrev blank : Entry
 blank = Expression (record { 0 = 0 })
@@ -32,7 +32,7 @@ argument s es i e lt h =
 
 pub part-requires : goal.part-requires
 part-requires t c =
-    let s = c.args.self.now in
+    let s = c.args.terms.now in
     let fs = (view_of s).functions in
     let es = c.entries-entry-items.result.now in
     let ts = args s es in
@@ -43,7 +43,7 @@ part-requires t c =
 
 pub render-requires : goal.render-requires
 render-requires t c =
-    let s = c.args.self.now in
+    let s = c.args.terms.now in
     let fs = (view_of s).functions in
     let es = c.entries-entry-items.result.now in
     let ts = args s es in
@@ -57,7 +57,7 @@ render-requires t c =
 
 pub loop-i-preserved : goal.loop-i-preserved
 loop-i-preserved t c =
-    let s = c.args.self.now in
+    let s = c.args.terms.now in
     let fs = (view_of s).functions in
     let es = c.entries-entry-items.result.now in
     let ts = args s es in
@@ -72,7 +72,7 @@ loop-i-preserved t c =
 
 pub returns-after-loop-i : goal.returns-after-loop-i
 returns-after-loop-i t c =
-    let s = c.args.self.now in
+    let s = c.args.terms.now in
     let fs = (view_of s).functions in
     let es = c.entries-entry-items.result.now in
     let ts = args s es in
