@@ -5,7 +5,7 @@ use Rattle.plan.specs.Rendering.{rendered_all, rendered_rest}
 use Rattle.plan.specs.Terms.{Expr, arguments}
 use Rattle.terms.specs.Views.{view_of, numbers_of}
 use Rattle.terms.proofs.Rendered.{call-width}
-use Rattle.terms.proofs.terms.calling.Arguments.call_width.Goals as goal
+use Rattle.expression.proofs.calling.Arguments.call_width.Goals as goal
 
 -- the first argument has no blank before it
 one_less : (fs : Functions) (ts : List Expr) → length (rendered_all fs (arguments ts)) ≡ length (rendered_rest fs (arguments ts)) - 1

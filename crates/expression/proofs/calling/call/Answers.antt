@@ -11,20 +11,20 @@ use Rattle.terms.specs.Build.{width_of}
 use Rattle.terms.specs.Views.{view_of, numbers_of}
 use Rattle.terms.specs.declared.node.Entry.TheVariants.{Expression}
 use Rattle.terms.proofs.Bounds.{few-arguments}
-use Rattle.terms.proofs.Facts.{roomy-parts, same_count}
-use Rattle.terms.proofs.Grown.{grew_from, same-trees, same-functions}
+use Rattle.expression.proofs.Grown.{roomy-parts, grew_from, same-trees, same-functions}
+use Rattle.terms.proofs.Facts.{same_count}
 use Rattle.terms.proofs.Calling.{listed-numbers, listed-inside, all-acceptable, call-accepted}
-use Rattle.terms.proofs.terms.Terms.call.Goals as goal
+use Rattle.expression.proofs.calling.call.Goals as goal
 
 pub invariant_of-given-clause-few : goal.invariant_of-given-clause-few
 invariant_of-given-clause-few c =
-    let t = c.args.self.now in
+    let t = c.args.terms.now in
     let ids = c.args.arguments.now in
     omega (arith, few-arguments (view_of t).functions c.args.function (length (numbers_of ids)) t.lexicon.good (sym c.takes.ensures ∙ c.in_ok-ask-2.ensures), length-map ids (λ e. e.0))
 
 pub add-requires : goal.add-requires
 add-requires c =
-    let v = view_of c.args.self.now in
+    let v = view_of c.args.terms.now in
     let w = view_of c.list.new.self in
     let ids = c.args.arguments.now in
     let f = c.args.function in
@@ -39,7 +39,7 @@ add-requires c =
       room = omega (arith, r.0, same_count v w _ _ e);
       inside = and_from _ _ (listed-inside v.entries w.entries ids _ _ l c.list.ensures.first c.list.ensures.count) (ap₂ (λ k ns. all_below k ns) (same_count v w _ _ e) n ∙ b);
       accepted = ap₂ (λ fs x. acceptable fs x) (same-functions v w _ _ e) t
-          ∙ call-accepted v.functions f (length (numbers_of ids)) ts (all-acceptable v.functions v.trees (numbers_of ids) c.args.self.now.accepted b) (sym (length-map (numbers_of ids) (expr_in v.trees))) (sym c.takes.ensures ∙ c.in_ok-ask-2.ensures)
+          ∙ call-accepted v.functions f (length (numbers_of ids)) ts (all-acceptable v.functions v.trees (numbers_of ids) c.args.terms.now.accepted b) (sym (length-map (numbers_of ids) (expr_in v.trees))) (sym c.takes.ensures ∙ c.in_ok-ask-2.ensures)
           (ap not (sym c.any_total.ensures) ∙ c.in_ok-ask-3.ensures) (sym c.are_small.ensures ∙ c.in_ok-ask-4.ensures);
       size = ap (λ k. k + 1) c.sizes-size.ensures.value ∙ sym (ap size_of t);
       width = c.call_width-width.ensures ∙ sym (ap₂ width_of (same-functions v w _ _ e) t);
@@ -47,7 +47,7 @@ add-requires c =
 
 pub returns-clause-answer : goal.returns-clause-answer
 returns-clause-answer c =
-    let v = view_of c.args.self.now in
+    let v = view_of c.args.terms.now in
     let w = view_of c.list.new.self in
     let ids = c.args.arguments.now in
     let e = c.list.ensures.view in

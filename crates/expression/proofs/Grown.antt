@@ -1,10 +1,12 @@
 -- From what was written to what a building call promises.
-use Rattle.std.proofs.Common.{◌≡◌, ℕ, List, [], ◌∷◌, ◌++◌, length, None, sym, refl, ap, ◌∙◌}
+use Rattle.std.proofs.Common.{◌≡◌, ℕ, ◌+◌, ◌≤◌, true, ◌&&◌, leb, List, [], ◌∷◌, ◌++◌, length, None, sym, refl, ap, ◌∙◌}
 use Rattle.std.proofs.lemmas.List.{append-nil}
+use Rattle.std.proofs.lemmas.Bool.{and_parts, leb-true}
 use Rattle.plan.specs.Terms.{Expr}
 use Rattle.plan.specs.Faults.{first_no}
 use Rattle.plan.specs.Calls.{Call, new_exprs, outlay}
-use Rattle.terms.specs.Building.{bare, all_asked_of, Grew}
+use Rattle.plan.specs.Model.{Space}
+use Rattle.expression.specs.Building.{bare, roomy, all_asked_of, Grew}
 use Rattle.terms.specs.Views.{View, grown}
 use Rattle.terms.specs.declared.node.Entry.{Entry}
 use Rattle.terms.proofs.Facts.{same_view, same_count}
@@ -30,3 +32,10 @@ grew_from v w u c t bs es r ok new p q n b l = record {
   bytes_used = b;
   entries_used = l;
 }
+
+-- what room for so much says of each table
+pub roomy-parts : (v : View) (s : Space) → roomy v s ≡ true → (length v.trees + s.exprs ≤ 1024) × (length v.entries + s.entries ≤ 2048) × (length v.bytes + s.bytes ≤ 16384)
+roomy-parts v s h =
+    let p = and_parts (leb (length v.trees + s.exprs) 1024) (leb (length v.entries + s.entries) 2048 && leb (length v.bytes + s.bytes) 16384) h in
+    let q = and_parts (leb (length v.entries + s.entries) 2048) (leb (length v.bytes + s.bytes) 16384) p.1 in
+    (leb-true _ _ p.0, leb-true _ _ q.0, leb-true _ _ q.1)

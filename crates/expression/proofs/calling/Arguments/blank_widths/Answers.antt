@@ -6,7 +6,7 @@ use Rattle.terms.specs.Views.{count, tree_of, view_of}
 use Rattle.terms.specs.declared.node.ExprId.{ExprId}
 use Rattle.terms.proofs.Arguments.{bounded-sum, short-name, widths-added}
 use Rattle.terms.proofs.Walks.{serves_low}
-use Rattle.terms.proofs.terms.calling.Arguments.blank_widths.Goals as goal
+use Rattle.expression.proofs.calling.Arguments.blank_widths.Goals as goal
 
 pub sum-requires-clause-can : goal.sum-requires-clause-can
 sum-requires-clause-can c =
