@@ -13,14 +13,16 @@ ghost use Rattle.tables.specs.Reading.{ReadsAs};
 ghost use Rattle.tables.specs.Tracing.{found_plan};
 ghost use Rattle.table.specs.Contents.{part};
 ghost use Rattle.terms.specs.Build.{numbers_in};
-ghost use Rattle.terms.specs.Spans.{function_in, stored_field, stored_in};
+ghost use Rattle.lexicon.specs.Declarations.{function_in};
+ghost use Rattle.terms.specs.Spans.{stored_field, stored_in};
 ghost use Rattle.names.specs.Spans.{span_in, word};
 ghost use Rattle.terms.specs.Views.{tree_for};
 
 use super::OpenBook;
+use lexicon::declaration::Declaration;
 use plan::fault::Fault;
 use tables::node::{PlanRecord, Run};
-use terms::node::{Declaration, Entry, ExprId, ExprNode, PlanId, Span, StoredField};
+use terms::node::{Entry, ExprId, ExprNode, PlanId, Span, StoredField};
 use terms::terms::Terms;
 
 impl OpenBook {

@@ -15,6 +15,7 @@ use super::Tables;
 use super::asked::Asked;
 use crate::node::{NewNode, SortKey};
 use draft::reading::has_short_names;
+use naming::resolving::resolved;
 use table::table::Table;
 use terms::node::{ExprId, PlanId, StoredField};
 
@@ -27,7 +28,7 @@ impl Tables {
         requires present { all_below (length (view_in self.now).trees) (numbers_of ids.now) ≡ true }
         ensures { result ≡ every (resolved (map (stored_field (view_in self.now).bytes) left.now ++ map (stored_field (view_in self.now).bytes) right.now)) (exprs_in (view_in self.now).trees (numbers_of ids.now)) }
     {
-        ids.iter().all(|id| self.terms.resolved(left, right, *id))
+        ids.iter().all(|id| resolved(&self.terms, left, right, *id))
     }
 
     /// Whether every reference of an expression resolves over an input.
@@ -36,7 +37,7 @@ impl Tables {
         requires present { e.0 < length (view_in self.now).trees }
         ensures { result ≡ resolved (fields_at self.now input.0) (expr_in (view_in self.now).trees e.0) }
     {
-        self.terms.resolved(self.fields_of(input), &[], e)
+        resolved(&self.terms, self.fields_of(input), &[], e)
     }
 
     /// The same of some expressions.

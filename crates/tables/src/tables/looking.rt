@@ -10,14 +10,16 @@ ghost use Rattle.plan.specs.Model.{expr_in};
 ghost use Rattle.plan.specs.declared.fault.Question.TheVariants.{Bounded, Present};
 ghost use Rattle.table.specs.Contents.{part};
 ghost use Rattle.terms.specs.Build.{numbers_in};
-ghost use Rattle.terms.specs.Spans.{function_in, stored_field, stored_in};
+ghost use Rattle.lexicon.specs.Declarations.{function_in};
+ghost use Rattle.terms.specs.Spans.{stored_field, stored_in};
 ghost use Rattle.names.specs.Spans.{span_in, word};
 ghost use Rattle.terms.specs.Views.{tree_for};
 
 use super::Tables;
 use crate::node::{PlanRecord, Run};
+use lexicon::declaration::Declaration;
 use plan::fault::{Fault, Question, ask};
-use terms::node::{Declaration, Entry, ExprId, ExprNode, PlanId, Span, StoredField};
+use terms::node::{Entry, ExprId, ExprNode, PlanId, Span, StoredField};
 use terms::terms::Terms;
 
 impl Tables {
