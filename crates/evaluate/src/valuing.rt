@@ -89,7 +89,10 @@ impl Row<'_> {
     {
         ask(self.has_places(scratch), Question::Bounded)?;
         ask(!self.terms.is_total(e), Question::Placed)?;
-        ask(resolved(self.terms, self.fields, &[], e), Question::Resolved)
+        ask(
+            resolved(self.terms, self.fields, &[], e),
+            Question::Resolved,
+        )
     }
 
     /// The value of an expression, or a refusal.
