@@ -18,7 +18,7 @@ use Rattle.terms.specs.Views.{View}
 use Rattle.terms.specs.declared.node.PlanId.{PlanId}
 use Rattle.terms.specs.declared.node.StoredField.{StoredField}
 use Rattle.terms.proofs.Bounds.{name-short}
-use Rattle.terms.proofs.Frames.{every_append}
+use Rattle.lexicon.proofs.Frames.{every_append}
 use Rattle.names.specs.declared.parts.Span.{Span}
 use Rattle.draft.specs.Drafts.{as_stored, as_owned, as_bare, as_column, draft_field, draft_in, draft_bytes, field_bytes, FieldsFor}
 use Rattle.draft.specs.declared.word.DraftField.{DraftField}

@@ -2,7 +2,7 @@
 --     declared_in b, text_in b      the functions, by number, and the text with their names
 use Rattle.std.specs.Prelude.{ℕ, List}
 use Rattle.plan.specs.Functions.{Functions}
-use Rattle.terms.specs.Lexicon.{functions_of, text_of}
+use Rattle.lexicon.specs.Lexicon.{functions_of, text_of}
 use Rattle.book.specs.declared.declaration.Book.{Book}
 
 abbrev pub declared_in : Book → Functions

@@ -1,5 +1,5 @@
 //! A book in declaration: the type of the state before opening.
-use terms::lexicon::Lexicon;
+use lexicon::lexicon::Lexicon;
 
 mod declaring;
 

@@ -17,7 +17,8 @@ use Rattle.terms.specs.declared.node.Entry.{Entry}
 use Rattle.names.specs.declared.parts.Span.{Span}
 use Rattle.terms.specs.declared.node.StoredField.{StoredField}
 use Rattle.terms.proofs.Facts.{grown-twice}
-use Rattle.terms.proofs.Frames.{every-at, every_append, span_grow, stored-grow}
+use Rattle.lexicon.proofs.Frames.{every-at, every_append, span_grow}
+use Rattle.terms.proofs.Frames.{stored-grow}
 use Rattle.draft.specs.Drafts.{word_at, word_in, owner_at, owner_in, draft_field, draft_in, word_bytes, field_bytes, draft_bytes, stored_qualifier, LentIn, WordAs, StoredAs, StoredAll}
 use Rattle.draft.specs.declared.storing.Lent.{Lent}
 use Rattle.draft.specs.declared.word.Word.{Word}

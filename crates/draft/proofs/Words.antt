@@ -8,7 +8,7 @@ use Rattle.terms.specs.Views.{View, view_of, tree_of, count}
 use Rattle.names.specs.declared.parts.Span.{Span}
 use Rattle.terms.specs.declared.terms.Terms.{Terms}
 use Rattle.terms.proofs.Bounds.{small, width-le}
-use Rattle.terms.proofs.Frames.{every-at}
+use Rattle.lexicon.proofs.Frames.{every-at}
 use Rattle.draft.specs.Drafts.{owner_at, owner_in, drafted, kept_qualifier}
 use Rattle.draft.specs.declared.word.Word.TheVariants.{Stored}
 use Rattle.draft.specs.declared.word.DraftField.{DraftField}

@@ -7,6 +7,7 @@ ghost use Rattle.std.specs.Str.{bytes_eq};
 ghost use Rattle.names.specs.Spans.{span_in, word as word_of};
 
 use crate::word::{DraftField, Relation, Word};
+use naming::rendering::render;
 use table::table::Table;
 use terms::node::Span;
 use terms::terms::Terms;
@@ -51,7 +52,7 @@ impl Source<'_> {
             Word::Stored(s) => out.extend(self.terms.word(s)),
             Word::Owner => out.extend(self.owner),
             Word::Given(s) => out.extend(piece(self.given, s)),
-            Word::Rendered(e) => self.terms.render(e, out),
+            Word::Rendered(e) => render(self.terms, e, out),
         }
     }
 

@@ -9,6 +9,7 @@ ghost use Rattle.names.specs.Spans.{span_in, word as word_of};
 ghost use Rattle.terms.specs.Views.{count, grown, tree_of, view_of};
 
 use crate::word::{DraftField, Relation, Word};
+use naming::rendering::render;
 use table::table::Table;
 use terms::node::{ExprId, Span, StoredField};
 use terms::terms::Terms;
@@ -31,7 +32,7 @@ fn write_rendered(terms: &mut Terms, e: ExprId) -> Span
     ensures begins { TermsBegin terms.old terms.new }
 {
     let mut name = Table::new(0);
-    terms.render(e, &mut name);
+    render(terms, e, &mut name);
     terms.write(name.as_slice())
 }
 

@@ -12,7 +12,7 @@ use Rattle.plan.specs.Terms.Exprs.{more, none}
 use Rattle.terms.specs.Acceptance.{acceptable, all_acceptable}
 use Rattle.terms.specs.Views.{count, tree_of, view_of}
 use Rattle.terms.specs.declared.terms.Terms.{Terms}
-use Rattle.terms.proofs.Frames.{every-at}
+use Rattle.lexicon.proofs.Frames.{every-at}
 use Rattle.evaluate.specs.Evaluating.{hold_total, holds_total}
 
 refuted : (b : Bool) → not b ≡ true → b ≡ false

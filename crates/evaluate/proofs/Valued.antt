@@ -17,7 +17,7 @@ use Rattle.terms.specs.declared.node.Entry.{Entry}
 use Rattle.terms.specs.declared.node.ExprNode.TheVariants.{Call}
 use Rattle.terms.specs.declared.node.Run.{Run}
 use Rattle.terms.specs.declared.terms.Terms.{Terms}
-use Rattle.terms.proofs.Frames.{every-at}
+use Rattle.lexicon.proofs.Frames.{every-at}
 use Rattle.terms.proofs.Walks.{called, listed_lower, resolved-arguments}
 use Rattle.rows.specs.Rows.{literal_value, seek, value_in, values_in}
 use Rattle.rows.specs.Worlds.{Row, World, applied}

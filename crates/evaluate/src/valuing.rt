@@ -10,6 +10,7 @@ ghost use Rattle.terms.specs.Views.{count, tree_of, view_of};
 ghost use Rattle.value.specs.Meanings.{meaning_of};
 
 use engine::Engine;
+use naming::resolving::resolved;
 use plan::fault::{Fault, Question, ask};
 use std::num::{f64_from_bits_with_nan, f64_to_bits_with_nan};
 use terms::listed::Listed;
@@ -88,7 +89,10 @@ impl Row<'_> {
     {
         ask(self.has_places(scratch), Question::Bounded)?;
         ask(!self.terms.is_total(e), Question::Placed)?;
-        ask(self.terms.resolved(self.fields, &[], e), Question::Resolved)
+        ask(
+            resolved(self.terms, self.fields, &[], e),
+            Question::Resolved,
+        )
     }
 
     /// The value of an expression, or a refusal.

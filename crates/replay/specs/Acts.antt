@@ -12,7 +12,7 @@ use Rattle.rewriting.specs.Book.{Request, Step}
 use Rattle.rewriting.specs.Book.Request.{build, swap}
 use Rattle.building.specs.Keys.{key_pairs}
 use Rattle.tables.specs.Making.{input_numbers}
-use Rattle.terms.specs.Building.{given_field}
+use Rattle.expression.specs.Building.{given_field}
 use Rattle.terms.specs.Views.{numbers_of}
 use Rattle.replay.specs.declared.act.Act.{Act}
 use Rattle.replay.specs.declared.act.Act.TheVariants.{Null, Truth, Whole, Real, Text, Reference, Alias, Call, Table, Projection, Filter, Sort, Limit, Aggregate, Join, SubqueryAlias, Union, Swap}

@@ -9,7 +9,7 @@ use Rattle.plan.specs.Calls.Call.{make_literal}
 use Rattle.plan.specs.Calls.{Call, asked, all_asked, new_exprs, new_plans, new_inputs, outlay, number_of_new, Made, Answers}
 use Rattle.plan.specs.declared.fault.Fault.{Fault}
 use Rattle.plan.specs.declared.fault.Question.TheVariants.{Space as SpaceQuestion}
-use Rattle.terms.specs.Building.{bare, roomy, all_asked_of, Grew, Answered}
+use Rattle.expression.specs.Building.{bare, roomy, all_asked_of, Grew, Answered}
 use Rattle.terms.specs.Views.{View, grown}
 use Rattle.terms.specs.declared.node.Entry.{Entry}
 use Rattle.terms.specs.declared.node.ExprId.{ExprId}

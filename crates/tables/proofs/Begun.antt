@@ -1,5 +1,6 @@
 -- Tables that begin with others: what a call leaves that adds to them still begins with what there was when the marks were taken.
-use Rattle.terms.proofs.Begun.{begins-then, terms-then}
+use Rattle.lexicon.proofs.Begun.{begins-then}
+use Rattle.terms.proofs.Begun.{terms-then}
 use Rattle.tables.specs.Begun.{TablesBegin, Begun}
 use Rattle.tables.specs.declared.marks.Marks.{Marks}
 use Rattle.tables.specs.declared.tables.Tables.{Tables}

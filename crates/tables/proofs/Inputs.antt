@@ -12,7 +12,7 @@ use Rattle.terms.specs.Entries.{entry_number}
 use Rattle.terms.specs.Views.{View}
 use Rattle.terms.specs.declared.node.Entry.{Entry}
 use Rattle.terms.specs.declared.node.PlanId.{PlanId}
-use Rattle.terms.proofs.Frames.{every-at}
+use Rattle.lexicon.proofs.Frames.{every-at}
 use Rattle.tables.specs.Holding.{view_in, nodes_of, trees_in, tree_in, fields_at, model_of, plan_count}
 use Rattle.tables.specs.Making.{input_numbers}
 use Rattle.tables.specs.Reading.{ReadsAs}

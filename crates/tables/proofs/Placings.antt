@@ -17,7 +17,7 @@ use Rattle.terms.specs.declared.node.ExprId.{ExprId}
 use Rattle.terms.specs.declared.node.PlanId.{PlanId}
 use Rattle.names.specs.declared.parts.Span.{Span}
 use Rattle.terms.proofs.Calling.{entries-numbers}
-use Rattle.terms.proofs.Frames.{span_grow}
+use Rattle.lexicon.proofs.Frames.{span_grow}
 use Rattle.terms.proofs.Facts.{grown-twice, same_view}
 use Rattle.tables.specs.Stored.{run_numbers, run_exprs, run_keys, key_at, list_in, inside_node, build_plan_node, node_inputs, accepted_node}
 use Rattle.tables.specs.Making.{new_key, key_numbers, input_numbers, tree_over, inputs_for, well_named}

@@ -18,7 +18,8 @@ use Rattle.names.specs.Spans.{word}
 use Rattle.terms.specs.Views.{View, grown}
 use Rattle.terms.specs.declared.node.Entry.{Entry}
 use Rattle.terms.specs.declared.node.StoredField.{StoredField}
-use Rattle.terms.proofs.Frames.{every_append, stored-grow}
+use Rattle.lexicon.proofs.Frames.{every_append}
+use Rattle.terms.proofs.Frames.{stored-grow}
 use Rattle.tables.specs.Stored.{fields_in, run_in, run_numbers, run_exprs, run_keys, build_plan_node, build_plan, plan_nodes, plan_trees, node_trees, list_in, inside_node, inside_plan, accepted_node, sound_plans, same_fields, fielded_at, fielded}
 use Rattle.tables.specs.declared.node.PlanNode.{PlanNode}
 use Rattle.tables.specs.declared.node.PlanNode.TheVariants.{Table, Projection, Filter, Sort, Limit, Aggregate, Join, SubqueryAlias, Union}

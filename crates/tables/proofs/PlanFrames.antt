@@ -19,7 +19,8 @@ use Rattle.names.specs.Spans.{span_in}
 use Rattle.terms.specs.Views.{View, grown}
 use Rattle.terms.specs.declared.node.Entry.{Entry}
 use Rattle.terms.specs.declared.node.StoredField.{StoredField}
-use Rattle.terms.proofs.Frames.{span_grow, stored-grow}
+use Rattle.lexicon.proofs.Frames.{span_grow}
+use Rattle.terms.proofs.Frames.{stored-grow}
 use Rattle.tables.specs.Stored.{fields_in, run_in, key_at, run_numbers, run_exprs, run_keys, build_plan_node, build_plan, plan_nodes, node_trees, list_in, inside_node, inside_plan, sound_plans, node_inputs, inputs_from, accepted_node}
 use Rattle.terms.specs.declared.node.Run.{Run}
 use Rattle.tables.specs.declared.node.PlanNode.{PlanNode}

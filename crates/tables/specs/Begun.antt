@@ -3,7 +3,8 @@
 --     SameTables s t      the same and nothing behind
 --     Begun s m t      m has the counts of s, and t begins with s
 use Rattle.std.specs.Prelude.{◌≡◌, length}
-use Rattle.terms.specs.Begun.{Begins, TermsBegin, SameTerms, Begun as TermsBegun}
+use Rattle.lexicon.specs.Begun.{Begins}
+use Rattle.terms.specs.Begun.{TermsBegin, SameTerms, Begun as TermsBegun}
 use Rattle.tables.specs.declared.marks.Marks.{Marks}
 use Rattle.tables.specs.declared.tables.Tables.{Tables}
 

@@ -11,7 +11,7 @@ use Rattle.terms.specs.Views.{arguments_of, count, view_of, tree_of, numbers_of}
 use Rattle.terms.specs.declared.node.ExprId.{ExprId}
 use Rattle.terms.specs.declared.terms.Terms.{Terms}
 use Rattle.terms.proofs.Bounds.{small, width-le}
-use Rattle.terms.proofs.Frames.{every-at}
+use Rattle.lexicon.proofs.Frames.{every-at}
 
 -- what is at most so much for each of some expressions is at most so many times as much for all
 pub bounded-sum : (n top : ℕ) (h : ExprId → ℕ) → ((e : ExprId) → e.0 < n → h e ≤ top) → (ids : List ExprId) → all_below n (numbers_of ids) ≡ true → sum_by h ids ≤ top * length ids

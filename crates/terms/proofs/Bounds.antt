@@ -15,9 +15,10 @@ use Rattle.plan.specs.Rendering.{rendered, rendered_all, rendered_rest, rendered
 use Rattle.plan.specs.Fields.{any, every}
 use Rattle.plan.specs.Questions.{small_tree}
 use Rattle.plan.specs.Calls.{good_field, good_qualifier, good_alias, arity_is}
-use Rattle.terms.specs.Acceptance.{good_function, good_literal, acceptable, all_acceptable}
+use Rattle.lexicon.specs.Declarations.{good_function}
+use Rattle.terms.specs.Acceptance.{good_literal, acceptable, all_acceptable}
 use Rattle.terms.specs.Build.{width_of}
-use Rattle.terms.proofs.Frames.{every-at}
+use Rattle.lexicon.proofs.Frames.{every-at}
 
 pub name-short : (n : Name) → good_name n ≡ true → length n ≤ 255
 name-short n h =

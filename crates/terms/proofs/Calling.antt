@@ -18,7 +18,7 @@ use Rattle.terms.specs.Views.{numbers_of}
 use Rattle.terms.specs.declared.node.Entry.{Entry}
 use Rattle.terms.specs.declared.node.Entry.TheVariants.{Expression}
 use Rattle.terms.specs.declared.node.ExprId.{ExprId}
-use Rattle.terms.proofs.Frames.{every-at}
+use Rattle.lexicon.proofs.Frames.{every-at}
 
 listed-arguments : (ts : List Expr) → listed (arguments ts) ≡ ts
 listed-arguments [] = refl

@@ -1,21 +1,19 @@
 -- The facts that a table of expressions keeps, as its parts grow.
-use Rattle.std.proofs.Common.{◌≡◌, ℕ, ◌+◌, ◌<◌, ◌≤◌, true, ◌&&◌, leb, List, [], ◌∷◌, ◌++◌, map, length, get_or, sym, refl, ap, ◌∙◌, ap₂, arith}
-use Rattle.plan.specs.Model.{Space}
-use Rattle.terms.specs.Building.{roomy}
+use Rattle.std.proofs.Common.{◌≡◌, ℕ, ◌<◌, true, List, [], ◌∷◌, ◌++◌, map, length, get_or, sym, refl, ap, ◌∙◌, ap₂, arith}
 use Rattle.std.proofs.lemmas.List.{map_push, append-nil, append_assoc, get_or-map}
-use Rattle.std.proofs.lemmas.Bool.{and_from, and_parts, leb-true}
+use Rattle.std.proofs.lemmas.Bool.{and_from}
 use Rattle.plan.specs.Terms.{Expr, size_of}
 use Rattle.plan.specs.Functions.{Functions}
 use Rattle.plan.specs.Fields.{every}
 use Rattle.plan.specs.Model.{expr_in, no_expr}
 use Rattle.terms.specs.Acceptance.{acceptable}
 use Rattle.terms.specs.Build.{build, trees, inside, sound, width_of}
-use Rattle.terms.specs.Lexicon.{functions_of, text_of}
+use Rattle.lexicon.specs.Lexicon.{functions_of, text_of}
 use Rattle.terms.specs.Views.{View, view_of, grown}
 use Rattle.terms.specs.declared.node.Entry.{Entry}
 use Rattle.terms.specs.declared.node.ExprRecord.{ExprRecord}
 use Rattle.terms.specs.declared.terms.Terms.{Terms}
-use Rattle.terms.proofs.Frames.{every_append}
+use Rattle.lexicon.proofs.Frames.{every_append}
 use Rattle.terms.proofs.Trees.{trees-grown, trees-push, sound-push, trees-length}
 
 pub record Facts (fs : Functions) (bs : List ℕ) (es : List Entry) (rs : List ExprRecord) : Type 0 where
@@ -72,13 +70,6 @@ pub grown-twice : (v w u : View) (n q : List ℕ) → w ≡ grown v [] n [] → 
 grown-twice v w u n q p r =
     let a : u ≡ grown (grown v [] n []) [] q [] = r ∙ ap (λ x. grown x [] q []) p in
     a ∙ same_view v v.functions v.trees [] v.bytes (n ++ q) v.entries [] v.functions ((v.trees ++ []) ++ []) ((v.bytes ++ n) ++ q) ((v.entries ++ []) ++ []) refl refl (append-nil (v.trees ++ [])) (append_assoc v.bytes n q) (append-nil (v.entries ++ []))
-
--- what room for so much says of each table
-pub roomy-parts : (v : View) (s : Space) → roomy v s ≡ true → (length v.trees + s.exprs ≤ 1024) × (length v.entries + s.entries ≤ 2048) × (length v.bytes + s.bytes ≤ 16384)
-roomy-parts v s h =
-    let p = and_parts (leb (length v.trees + s.exprs) 1024) (leb (length v.entries + s.entries) 2048 && leb (length v.bytes + s.bytes) 16384) h in
-    let q = and_parts (leb (length v.entries + s.entries) 2048) (leb (length v.bytes + s.bytes) 16384) p.1 in
-    (leb-true _ _ p.0, leb-true _ _ q.0, leb-true _ _ q.1)
 
 -- a text that is written adds no tree
 pub same_count : (v v' : View) (bs : List ℕ) (es : List Entry) → v' ≡ grown v [] bs es → length v'.trees ≡ length v.trees

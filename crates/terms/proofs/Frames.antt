@@ -1,50 +1,26 @@
 -- What spans stand for stays as the text grows.
-use Rattle.std.proofs.Common.{◌≡◌, ℕ, ◌+◌, ◌<◌, Bool, true, List, [], ◌∷◌, ◌++◌, map, length, get_or, set, Some, None, Option, refl, ap, ap₂, arith, length-append}
-use Rattle.std.proofs.lemmas.Bool.{and_parts, and_from, leb-true, le-leb}
-use Rattle.table.proofs.Parts.{part-grow}
+use Rattle.std.proofs.Common.{◌≡◌, ℕ, true, List, [], ◌∷◌, ◌++◌, map, Some, None, Option, refl, ap, ap₂}
+use Rattle.std.proofs.lemmas.Bool.{and_parts, and_from}
+use Rattle.lexicon.proofs.Frames.{span_grow}
 use Rattle.plan.specs.Terms.Qualifier.{qualified}
 use Rattle.plan.specs.Terms.Literal.{text}
 use Rattle.plan.specs.Fields.{every}
-use Rattle.terms.specs.Spans.{qualifier_at, qualifier_in, literal_at, literal_in, stored_field, stored_in, function_in, functions_in, declaration_in}
-use Rattle.names.specs.Spans.{word, span_in}
+use Rattle.terms.specs.Spans.{qualifier_at, qualifier_in, literal_at, literal_in, stored_field, stored_in}
+use Rattle.names.specs.Spans.{span_in}
 use Rattle.names.specs.declared.parts.Span.{Span}
 use Rattle.terms.specs.declared.node.Literal.{Literal}
 use Rattle.terms.specs.declared.node.Literal.TheVariants.{Null, Truth, Whole, Real, Text}
 use Rattle.terms.specs.declared.node.StoredField.{StoredField}
-use Rattle.terms.specs.declared.node.Declaration.{Declaration}
-
-pub every-at : {X : Type 0} (p : X → Bool) (xs : List X) (i : ℕ) (d : X) → i < length xs → every p xs ≡ true → p (get_or xs i d) ≡ true
-every-at p [] i d lt h = absurd (omega arith)
-every-at p (x ∷ xs) Prim.Native.Nat.zero d lt h = (and_parts (p x) (every p xs) h).0
-every-at p (x ∷ xs) (Prim.Native.Nat.suc i) d lt h = every-at p xs i d (omega arith) (and_parts (p x) (every p xs) h).1
-
-pub every_append : {X : Type 0} (p : X → Bool) (xs ys : List X) → every p xs ≡ true → every p ys ≡ true → every p (xs ++ ys) ≡ true
-every_append p [] ys h k = k
-every_append p (x ∷ xs) ys h k =
-    let q = and_parts (p x) (every p xs) h in
-    and_from _ _ q.0 (every_append p xs ys q.1 k)
-
-pub every_set : {X : Type 0} (p : X → Bool) (xs : List X) (i : ℕ) (x : X) → every p xs ≡ true → p x ≡ true → every p (set xs i x) ≡ true
-every_set p [] i x h k = h
-every_set p (y ∷ ys) Prim.Native.Nat.zero x h k = and_from _ _ k (and_parts (p y) (every p ys) h).1
-every_set p (y ∷ ys) (Prim.Native.Nat.suc i) x h k =
-    let q = and_parts (p y) (every p ys) h in
-    and_from _ _ q.0 (every_set p ys i x q.1 k)
 
 module _ (bs bs' : List ℕ) where
-  pub span_grow : (s : Span) → span_in bs s ≡ true → (word (bs ++ bs') s ≡ word bs s) × (span_in (bs ++ bs') s ≡ true)
-  span_grow s h =
-      let le = leb-true (s.start + s.len) (length bs) h in
-      (part-grow bs bs' s.start s.len le, le-leb _ _ (omega (arith, length-append bs bs')))
-
   pub qualifier-grow : (q : Option Span) → qualifier_in bs q ≡ true → (qualifier_at (bs ++ bs') q ≡ qualifier_at bs q) × (qualifier_in (bs ++ bs') q ≡ true)
   qualifier-grow None h = (refl, refl)
-  qualifier-grow (Some s) h = (ap qualified (span_grow s h).0, (span_grow s h).1)
+  qualifier-grow (Some s) h = (ap qualified (span_grow bs bs' s h).0, (span_grow bs bs' s h).1)
 
   pub field-grow : (f : StoredField) → stored_in bs f ≡ true → (stored_field (bs ++ bs') f ≡ stored_field bs f) × (stored_in (bs ++ bs') f ≡ true)
   field-grow f h =
       let p = and_parts (span_in bs f.name) (qualifier_in bs f.qualifier) h in
-      let a = span_grow f.name p.0 in
+      let a = span_grow bs bs' f.name p.0 in
       let b = qualifier-grow f.qualifier p.1 in
       (ap₂ (λ x y. record { qualifier = x; name = y }) b.0 a.0, and_from _ _ a.1 b.1)
 
@@ -53,21 +29,7 @@ module _ (bs bs' : List ℕ) where
   literal-grow (Truth b) h = (refl, refl)
   literal-grow (Whole n) h = (refl, refl)
   literal-grow (Real x) h = (refl, refl)
-  literal-grow (Text s) h = (ap text (span_grow s h).0, (span_grow s h).1)
-
-  pub function-grow : (d : Option Declaration) → declaration_in bs d ≡ true → (function_in (bs ++ bs') d ≡ function_in bs d) × (declaration_in (bs ++ bs') d ≡ true)
-  function-grow None h = (refl, refl)
-  function-grow (Some d) h =
-      let a = span_grow d.name h in
-      (ap (λ n. Some (record { name = n; arity = d.arity; rule = d.rule; strict = d.strict })) a.0, a.1)
-
-  pub functions-grow : (ds : List (Option Declaration)) → every (declaration_in bs) ds ≡ true → (functions_in (bs ++ bs') ds ≡ functions_in bs ds) × (every (declaration_in (bs ++ bs')) ds ≡ true)
-  functions-grow [] h = (refl, refl)
-  functions-grow (d ∷ ds) h =
-      let p = and_parts (declaration_in bs d) (every (declaration_in bs) ds) h in
-      let a = function-grow d p.0 in
-      let b = functions-grow ds p.1 in
-      (ap₂ (λ x y. x ∷ y) a.0 b.0, and_from _ _ a.1 b.1)
+  literal-grow (Text s) h = (ap text (span_grow bs bs' s h).0, (span_grow bs bs' s h).1)
 
   pub stored-grow : (fs : List StoredField) → every (stored_in bs) fs ≡ true → (map (stored_field (bs ++ bs')) fs ≡ map (stored_field bs) fs) × (every (stored_in (bs ++ bs')) fs ≡ true)
   stored-grow [] h = (refl, refl)

@@ -4,7 +4,6 @@ pub mod Facts
 pub mod Walks
 pub mod Rendered
 pub mod Bounds
-pub mod Grown
 pub mod Calling
 pub mod Arguments
 pub mod Begun

@@ -17,7 +17,7 @@ use Rattle.terms.specs.Entries.{entry_number}
 use Rattle.terms.specs.declared.node.Entry.{Entry}
 use Rattle.terms.specs.declared.node.ExprNode.TheVariants.{Call}
 use Rattle.terms.specs.declared.node.Run.{Run}
-use Rattle.terms.proofs.Frames.{every-at}
+use Rattle.lexicon.proofs.Frames.{every-at}
 
 pub record Called (es : List Entry) (e : ℕ) (run : Run) : Type 0 where
   pub long : run.first + run.count ≤ length es

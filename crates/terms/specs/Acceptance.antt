@@ -1,21 +1,16 @@
--- What the calls that make an expression or declare a function let pass.
---     declared f      a declaration that was accepted
+-- What the calls that make an expression let pass.
 --     acceptable fs e      an expression each node of which its own building call accepts
-use Rattle.std.specs.Prelude.{◌^◌, Bool, true, not, ◌&&◌, length, Some, None, Option, nat_le, nat_lt}
+use Rattle.std.specs.Prelude.{◌^◌, Bool, true, not, ◌&&◌, length, nat_lt}
 use Rattle.std.specs.Int.Signed.{mag}
-use Rattle.plan.specs.Names.{good_name, prefixed}
+use Rattle.plan.specs.Names.{good_name}
 use Rattle.plan.specs.Terms.{Literal, Expr, Exprs, listed}
 use Rattle.plan.specs.Terms.Literal.{null, truth, whole, real, text}
 use Rattle.plan.specs.Terms.Expr.{literal, reference, alias, call}
 use Rattle.plan.specs.Terms.Exprs.{none, more}
-use Rattle.plan.specs.Functions.{Function, Functions, function_at, is_total}
+use Rattle.plan.specs.Functions.{Functions, function_at, is_total}
 use Rattle.plan.specs.Fields.{any}
 use Rattle.plan.specs.Questions.{small_tree}
 use Rattle.plan.specs.Calls.{good_field, good_alias, arity_is}
-
-abbrev pub good_function : Option Function → Bool
-good_function None = true
-good_function (Some f) = (good_name f.name && not (prefixed f.name)) && nat_le f.arity 4
 
 -- whole numbers have 64 bits
 abbrev pub good_literal : Literal → Bool

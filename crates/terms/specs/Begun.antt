@@ -1,26 +1,13 @@
--- What it is to begin with other tables, and to be put back to them; cited by src/lexicon/methods.rt and src/terms.
---     Begins xs ys      the list ys begins with xs
---     LexiconBegins x y, TermsBegin s t      y, t is x, s and what was put behind it, place for place; the functions are the same
+-- What it is to begin with other tables, and to be put back to them; cited by src/terms.
+--     TermsBegin s t      t is s and what was put behind it, place for place; the functions are the same
 --         (places and not trees: another record of the same tree could name text that is put back)
---     SameLexicon x y, SameTerms s t      the same and nothing behind
+--     SameTerms s t      the same and nothing behind
 --     Begun s m t      m has the counts of s, and t begins with s
-use Rattle.std.specs.Prelude.{◌≡◌, List, ◌++◌, length}
-use Rattle.terms.specs.Lexicon.{text_of}
-use Rattle.terms.specs.declared.lexicon.Lexicon.{Lexicon}
+use Rattle.std.specs.Prelude.{◌≡◌, length}
+use Rattle.lexicon.specs.Lexicon.{text_of}
+use Rattle.lexicon.specs.Begun.{Begins, LexiconBegins, SameLexicon}
 use Rattle.terms.specs.declared.marks.Marks.{Marks}
 use Rattle.terms.specs.declared.terms.Terms.{Terms}
-
-pub record Begins {X : Type 0} (xs ys : List X) : Type 0 where
-  pub more : List X
-  pub is : ys ≡ xs ++ more
-
-pub record LexiconBegins (x y : Lexicon) : Type 0 where
-  pub functions : y.functions ≡ x.functions
-  pub text : Begins (text_of x) (text_of y)
-
-pub record SameLexicon (x y : Lexicon) : Type 0 where
-  pub functions : y.functions ≡ x.functions
-  pub text : text_of y ≡ text_of x
 
 pub record TermsBegin (s t : Terms) : Type 0 where
   pub lexicon : LexiconBegins s.lexicon t.lexicon

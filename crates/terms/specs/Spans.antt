@@ -1,18 +1,16 @@
 -- What holds spans of the text, and what it stands for.
---     qualifier_at, stored_field, literal_at, function_in      what it stands for
---     qualifier_in, stored_in, literal_in, declaration_in      whether its spans are inside
-use Rattle.std.specs.Prelude.{ℕ, ◌^◌, Bool, true, false, ◌&&◌, List, map, Some, None, Option, nat_lt}
+--     qualifier_at, stored_field, literal_at      what it stands for
+--     qualifier_in, stored_in, literal_in      whether its spans are inside
+use Rattle.std.specs.Prelude.{ℕ, ◌^◌, Bool, true, false, ◌&&◌, List, Some, None, Option, nat_lt}
 use Rattle.std.specs.Int.Signed.{mag}
 use Rattle.names.specs.Spans.{word, span_in}
 use Rattle.names.specs.declared.parts.Span.{Span}
 use Rattle.plan.specs.Terms.{Field, Qualifier, Literal as Constant}
 use Rattle.plan.specs.Terms.Qualifier.{unqualified, qualified}
 use Rattle.plan.specs.Terms.Literal.{null, truth, whole, real, text}
-use Rattle.plan.specs.Functions.{Function, Functions}
 use Rattle.terms.specs.declared.node.Literal.{Literal}
 use Rattle.terms.specs.declared.node.Literal.TheVariants.{Null, Truth, Whole, Real, Text}
 use Rattle.terms.specs.declared.node.StoredField.{StoredField}
-use Rattle.terms.specs.declared.node.Declaration.{Declaration}
 
 abbrev pub qualifier_at : List ℕ → Option Span → Qualifier
 qualifier_at bytes None = unqualified
@@ -41,17 +39,6 @@ stored_field bytes f = record { qualifier = qualifier_at bytes f.qualifier; name
 
 abbrev pub stored_in : List ℕ → StoredField → Bool
 stored_in bytes f = span_in bytes f.name && qualifier_in bytes f.qualifier
-
-abbrev pub function_in : List ℕ → Option Declaration → Option Function
-function_in bytes None = None
-function_in bytes (Some d) = Some (record { name = word bytes d.name; arity = d.arity; rule = d.rule; strict = d.strict })
-
-abbrev pub functions_in : List ℕ → List (Option Declaration) → Functions
-functions_in bytes ds = map (function_in bytes) ds
-
-abbrev pub declaration_in : List ℕ → Option Declaration → Bool
-declaration_in bytes None = true
-declaration_in bytes (Some d) = span_in bytes d.name
 
 -- a literal that holds no span and fits its type
 abbrev pub plain_literal : Literal → Bool

@@ -9,7 +9,7 @@ use Rattle.plan.specs.Terms.{Expr, Exprs, arguments}
 use Rattle.plan.specs.Functions.{Functions}
 use Rattle.plan.specs.Model.{expr_in, exprs_in}
 use Rattle.terms.specs.Build.{trees, build_node}
-use Rattle.terms.specs.Lexicon.{text_of, functions_of}
+use Rattle.lexicon.specs.Lexicon.{text_of, functions_of}
 use Rattle.terms.specs.declared.node.Entry.{Entry}
 use Rattle.terms.specs.declared.node.ExprId.{ExprId}
 use Rattle.terms.specs.declared.node.ExprNode.{ExprNode}

@@ -1,6 +1,6 @@
 //! What one place of the tables holds.
 pub use names::parts::Span;
-use plan::code::{Direction, Rule};
+use plan::code::Direction;
 
 /// An expression, by its number.
 // A number, since outside a book expressions are known by number. That it is there is a clause of each function: a number
@@ -66,14 +66,4 @@ pub enum Entry {
 pub struct StoredField {
     pub qualifier: Option<Span>,
     pub name: Span,
-}
-
-/// A declared function.
-// No `==`, as for a field: its name is equal to another by its bytes.
-#[derive(Clone, Copy)]
-pub struct Declaration {
-    pub name: Span,
-    pub arity: u8,
-    pub rule: Rule,
-    pub strict: bool,
 }

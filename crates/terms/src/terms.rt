@@ -3,20 +3,16 @@ ghost use Rattle.plan.specs.Fields.{every};
 ghost use Rattle.plan.specs.Terms.{size_of};
 ghost use Rattle.terms.specs.Acceptance.{acceptable};
 ghost use Rattle.terms.specs.Build.{sound, trees, width_of};
-ghost use Rattle.terms.specs.Lexicon.{functions_of, text_of};
+ghost use Rattle.lexicon.specs.Lexicon.{functions_of, text_of};
 ghost use Rattle.std.specs.Prelude.{◌≡◌, ◌≤◌, true, map, length};
 
-use crate::lexicon::Lexicon;
 use crate::node::{Entry, ExprRecord};
+use lexicon::lexicon::Lexicon;
 use table::table::Table;
 
 mod adding;
-mod building;
-mod calling;
 mod marking;
 mod reading;
-mod rendering;
-mod resolving;
 
 #[derive(Drop)]
 pub struct Terms {

@@ -3,12 +3,12 @@ ghost use Rattle.book.specs.Declaration.{declared_in, text_in};
 ghost use Rattle.book.specs.Opened.{book_of};
 ghost use Rattle.plan.specs.Model.{opened};
 ghost use Rattle.std.specs.Prelude.{◌≡◌, [], replicate, None};
-ghost use Rattle.terms.specs.Declaring.{DeclareAnswered};
+ghost use Rattle.lexicon.specs.Declaring.{DeclareAnswered};
 
 use super::Book;
 use crate::opened::OpenBook;
+use lexicon::lexicon::Lexicon;
 use plan::fault::Fault;
-use terms::lexicon::Lexicon;
 
 impl Book {
     /// No function.

@@ -5,7 +5,7 @@ ghost use Rattle.plan.specs.Terms.Literal.{null as null_literal, real as real_li
 ghost use Rattle.rewriting.specs.Book.Request.{build};
 ghost use Rattle.rewriting.specs.Book.{Answers};
 ghost use Rattle.tables.specs.Answering.{answered_expr};
-ghost use Rattle.terms.specs.Building.{given_field};
+ghost use Rattle.expression.specs.Building.{given_field};
 ghost use Rattle.terms.specs.Views.{numbers_of};
 
 use super::OpenBook;

@@ -1,12 +1,12 @@
 //! A book that was just opened.
 ghost use Rattle.book.specs.Opened.{book_of};
 ghost use Rattle.plan.specs.Model.{opened};
-ghost use Rattle.terms.specs.Lexicon.{functions_of, text_of};
+ghost use Rattle.lexicon.specs.Lexicon.{functions_of, text_of};
 ghost use Rattle.std.specs.Prelude.{◌≡◌};
 
 use super::OpenBook;
+use lexicon::lexicon::Lexicon;
 use tables::tables::Tables;
-use terms::lexicon::Lexicon;
 
 impl OpenBook {
     /// No expression and no node.

@@ -4,8 +4,8 @@ use Rattle.std.proofs.lemmas.List.{length-map}
 use Rattle.std.proofs.lemmas.Iterator.{YieldsList-from_range}
 use Rattle.std.proofs.lemmas.Iterator.Search.{all_from_yields_List}
 use Rattle.plan.specs.Functions.{function_at}
-use Rattle.terms.specs.Lexicon.{text_of}
-use Rattle.terms.specs.Spans.{function_in}
+use Rattle.lexicon.specs.Lexicon.{text_of}
+use Rattle.lexicon.specs.Declarations.{function_in}
 use Rattle.tables.specs.Holding.{model_of}
 use Rattle.tables.specs.declared.tables.Tables.{Tables}
 use Rattle.evaluate.specs.Fitness.{suits, suits_at}

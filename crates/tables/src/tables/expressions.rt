@@ -4,10 +4,11 @@ ghost use Rattle.tables.specs.Holding.{model_of};
 ghost use Rattle.plan.specs.Calls.Call.{make_alias, make_call, make_literal, make_reference};
 ghost use Rattle.plan.specs.Calls.{Answers};
 ghost use Rattle.plan.specs.Terms.Literal.{null as null_literal, real as real_literal, text as text_literal, truth as truth_literal, whole as whole_literal};
-ghost use Rattle.terms.specs.Building.{given_field};
+ghost use Rattle.expression.specs.Building.{given_field};
 ghost use Rattle.terms.specs.Views.{numbers_of};
 
 use super::Tables;
+use expression::{building, calling};
 use plan::fault::Fault;
 use terms::node::ExprId;
 
@@ -16,42 +17,42 @@ impl Tables {
     pub fn null(&mut self) -> Result<ExprId, Fault>
         ensures { Answers (model_of self.old) (make_literal null_literal) (answered_expr result) (model_of self.new) }
     {
-        self.terms.null()
+        building::null(&mut self.terms)
     }
 
     /// A truth literal.
     pub fn truth(&mut self, b: bool) -> Result<ExprId, Fault>
         ensures { Answers (model_of self.old) (make_literal (truth_literal b)) (answered_expr result) (model_of self.new) }
     {
-        self.terms.truth(b)
+        building::truth(&mut self.terms, b)
     }
 
     /// A whole number.
     pub fn whole(&mut self, n: i64) -> Result<ExprId, Fault>
         ensures { Answers (model_of self.old) (make_literal (whole_literal n)) (answered_expr result) (model_of self.new) }
     {
-        self.terms.whole(n)
+        building::whole(&mut self.terms, n)
     }
 
     /// A real.
     pub fn real(&mut self, x: f64) -> Result<ExprId, Fault>
         ensures { Answers (model_of self.old) (make_literal (real_literal x)) (answered_expr result) (model_of self.new) }
     {
-        self.terms.real(x)
+        building::real(&mut self.terms, x)
     }
 
     /// A text literal.
     pub fn text(&mut self, bytes: &[u8]) -> Result<ExprId, Fault>
         ensures { Answers (model_of self.old) (make_literal (text_literal bytes.now)) (answered_expr result) (model_of self.new) }
     {
-        self.terms.text(bytes)
+        building::text(&mut self.terms, bytes)
     }
 
     /// A reference to a column.
     pub fn reference(&mut self, name: &[u8], qualifier: Option<&[u8]>) -> Result<ExprId, Fault>
         ensures { Answers (model_of self.old) (make_reference (given_field name.now qualifier.entry)) (answered_expr result) (model_of self.new) }
     {
-        self.terms.reference(name, qualifier)
+        building::reference(&mut self.terms, name, qualifier)
     }
 
     /// An expression under another name.
@@ -63,13 +64,13 @@ impl Tables {
     ) -> Result<ExprId, Fault>
         ensures { Answers (model_of self.old) (make_alias inner.0 (given_field name.now qualifier.entry)) (answered_expr result) (model_of self.new) }
     {
-        self.terms.alias(inner, name, qualifier)
+        building::alias(&mut self.terms, inner, name, qualifier)
     }
 
     /// A call of a declared function.
     pub fn call(&mut self, function: u8, arguments: &[ExprId]) -> Result<ExprId, Fault>
         ensures { Answers (model_of self.old) (make_call function (numbers_of arguments.now)) (answered_expr result) (model_of self.new) }
     {
-        self.terms.call(function, arguments)
+        calling::call(&mut self.terms, function, arguments)
     }
 }

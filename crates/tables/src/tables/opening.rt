@@ -1,13 +1,13 @@
 //! The tables of a book that was just opened.
 ghost use Rattle.plan.specs.Model.{opened};
 ghost use Rattle.tables.specs.Holding.{model_of};
-ghost use Rattle.terms.specs.Lexicon.{functions_of, text_of};
+ghost use Rattle.lexicon.specs.Lexicon.{functions_of, text_of};
 ghost use Rattle.std.specs.Prelude.{◌≡◌};
 
 use super::Tables;
 use crate::node::{PlanNode, PlanRecord, Run};
+use lexicon::lexicon::Lexicon;
 use table::table::Table;
-use terms::lexicon::Lexicon;
 use terms::node::{PlanId, Span, StoredField};
 use terms::terms::Terms;
 

@@ -5,9 +5,10 @@ ghost use Rattle.tables.specs.Holding.{model_of};
 
 use super::Tables;
 use super::attempting::Attempt;
+use expression::building;
+use lexicon::lexicon::Lexicon;
 use plan::fault::Fault;
 use std::test::Fail;
-use terms::lexicon::Lexicon;
 use terms::node::ExprId;
 
 /// A text literal.
@@ -15,14 +16,14 @@ use terms::node::ExprId;
 fn text(tables: &mut Tables, bytes: &[u8]) -> Result<ExprId, Fault>
     ensures { TablesBegin tables.old tables.new }
 {
-    tables.terms.text(bytes)
+    building::text(&mut tables.terms, bytes)
 }
 
 /// An alias.
 fn alias(tables: &mut Tables, inner: ExprId, name: &[u8]) -> Result<ExprId, Fault>
     ensures { TablesBegin tables.old tables.new }
 {
-    tables.terms.alias(inner, name, None)
+    building::alias(&mut tables.terms, inner, name, None)
 }
 
 /// A text literal and an alias of it. A name of no byte is refused.

@@ -4,14 +4,14 @@ ghost use Rattle.plan.specs.Terms.{size_of};
 ghost use Rattle.terms.specs.Acceptance.{acceptable};
 ghost use Rattle.terms.specs.Begun.{TermsBegin};
 ghost use Rattle.terms.specs.Build.{inside_node, width_of};
-ghost use Rattle.terms.specs.Lexicon.{functions_of, text_of};
+ghost use Rattle.lexicon.specs.Lexicon.{functions_of, text_of};
 ghost use Rattle.names.specs.Spans.{span_in, word};
 ghost use Rattle.terms.specs.Views.{count, grown, tree_for, view_of};
 
 use super::Terms;
-use crate::lexicon::Lexicon;
 use crate::listed::Listed;
 use crate::node::{Entry, ExprId, ExprNode, ExprRecord, Literal, Run, Span};
+use lexicon::lexicon::Lexicon;
 use table::table::Table;
 
 impl Terms {
@@ -63,7 +63,7 @@ impl Terms {
     }
 
     /// Adds a node, with the size of its tree and the length of its rendered name.
-    pub(super) fn add(&mut self, node: ExprNode, size: u32, width: u32) -> ExprId
+    pub fn add(&mut self, node: ExprNode, size: u32, width: u32) -> ExprId
         requires room { count self.old < 1024 }
         requires inside { inside_node (view_of self.old).bytes (view_of self.old).entries (count self.old) node ≡ true }
         requires accepted { acceptable (view_of self.old).functions (tree_for self.old node) ≡ true }

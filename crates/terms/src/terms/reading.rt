@@ -1,17 +1,20 @@
 //! What is asked of expressions.
-ghost use Rattle.std.specs.Prelude.{◌≡◌, ◌+◌, ◌<◌, ◌≤◌, true, ◌++◌, map, length, count_by, slice_index, slice_index_or};
-ghost use Rattle.plan.specs.Fields.{any, every, named, resolved, resolves};
-ghost use Rattle.plan.specs.Functions.{function_at, is_total, rule_in};
-ghost use Rattle.plan.specs.Terms.{same_field, size_of};
+ghost use Rattle.std.specs.Prelude.{◌≡◌, ◌+◌, ◌<◌, ◌≤◌, true, map, length, slice_index, slice_index_or};
+ghost use Rattle.plan.specs.Calls.{all_below, below};
+ghost use Rattle.plan.specs.Fields.{any};
+ghost use Rattle.plan.specs.Functions.{function_at, is_total, name_in, rule_in};
+ghost use Rattle.plan.specs.Model.{exprs_in};
+ghost use Rattle.plan.specs.Terms.{size_of};
 ghost use Rattle.table.specs.Contents.{part};
-ghost use Rattle.terms.specs.Build.{inside_node, numbers_in, width_of};
 ghost use Rattle.names.specs.Spans.{span_in, word};
-ghost use Rattle.terms.specs.Spans.{declaration_in, function_in};
-ghost use Rattle.terms.specs.Views.{count, tree_for, tree_of, view_of};
+ghost use Rattle.lexicon.specs.Declarations.{declaration_in, function_in};
+ghost use Rattle.terms.specs.Build.{inside_node, numbers_in, width_of};
+ghost use Rattle.terms.specs.Views.{AllPresent, count, numbers_of, tree_for, tree_of, view_of};
 
 use super::Terms;
 use crate::listed::Listed;
-use crate::node::{Declaration, Entry, ExprId, ExprNode, Run, Span};
+use crate::node::{Entry, ExprId, ExprNode, Run, Span};
+use lexicon::declaration::Declaration;
 use plan::code::Rule;
 
 impl Terms {
@@ -21,6 +24,20 @@ impl Terms {
         ensures bound { result ≤ 1024 }
     {
         self.exprs.len()
+    }
+
+    /// Whether an expression stands in the book.
+    pub fn has(&self, e: ExprId) -> bool
+        ensures { result ≡ below (count self.now) e.0 }
+    {
+        (e.0 as usize) < self.len()
+    }
+
+    /// Whether all of some expressions stand in the book.
+    pub fn has_all(&self, ids: &[ExprId]) -> bool
+        ensures { result ≡ all_below (count self.now) (numbers_of ids.now) }
+    {
+        ids.iter().all(|id| self.has(*id))
     }
 
     /// How many list entries more there is room for.
@@ -78,6 +95,13 @@ impl Terms {
         self.lexicon.function(number)
     }
 
+    /// The name of a function; nothing where none is declared.
+    pub fn name_of(&self, number: u8) -> &[u8]
+        ensures { result.now ≡ name_in (function_at (view_of self.now).functions number) }
+    {
+        self.function(number).map_or(b"", |d| self.word(d.name))
+    }
+
     /// The rule of a function.
     pub fn rule(&self, number: u8) -> Rule
         ensures { result ≡ rule_in (function_at (view_of self.now).functions number) }
@@ -121,6 +145,15 @@ impl Terms {
             ExprNode::Alias { inner, .. } => self.is_total(inner),
             ExprNode::Call { function, .. } => self.rule(function) == Rule::Total,
         }
+    }
+
+    /// Whether one of some expressions is a total.
+    // A slice of numbers from a caller: that all are there is a clause, as for one number.
+    pub fn any_total(&self, ids: &[ExprId]) -> bool
+        requires { AllPresent self.now ids.now }
+        ensures { result ≡ any (is_total (view_of self.now).functions) (exprs_in (view_of self.now).trees (numbers_of ids.now)) }
+    {
+        ids.iter().any(|id| self.is_total(*id))
     }
 
     /// The whole text.

@@ -1,4 +1,4 @@
-use Rattle.terms.specs.Lexicon.{functions_of, text_of}
+use Rattle.lexicon.specs.Lexicon.{functions_of, text_of}
 use Rattle.tables.specs.Holding.{model_of}
 use Rattle.book.proofs.Reaching.{reached-opened}
 use Rattle.book.proofs.opened.OpenBook.open.Goals as goal

@@ -6,7 +6,7 @@ use Rattle.std.proofs.lemmas.Iterator.Search.{position_from_yields_List}
 use Rattle.terms.specs.Spans.{stored_field, stored_in}
 use Rattle.terms.specs.Views.{view_of}
 use Rattle.terms.specs.declared.node.StoredField.{StoredField}
-use Rattle.terms.proofs.Frames.{every-at}
+use Rattle.lexicon.proofs.Frames.{every-at}
 use Rattle.rows.specs.Rows.{may_mean}
 use Rattle.evaluate.proofs.Found.{seek-position}
 use Rattle.evaluate.proofs.valuing.Row.seek.Goals as goal

@@ -5,8 +5,8 @@ use Rattle.tables.proofs.Answers.{expr-answers, still-held}
 use Rattle.tables.proofs.tables.Tables.call.Goals as goal
 
 pub invariant_of-self : goal.invariant_of-self
-invariant_of-self c = still-held c.args.self.now (view_of c.call.new.self) (make_call c.args.function (numbers_of c.args.arguments.now)) c.call.result c.call.ensures.answer
+invariant_of-self c = still-held c.args.self.now (view_of c.call.new.terms) (make_call c.args.function (numbers_of c.args.arguments.now)) c.call.result c.call.ensures.answer
 
 pub returns : goal.returns
 returns c =
-    expr-answers c.args.self.now (view_of c.call.new.self) (make_call c.args.function (numbers_of c.args.arguments.now)) (record { asks = refl; makes = refl; costs = refl; no-plan = refl; no-inputs = refl; number = refl; expressions = refl; plans = refl; fields = refl }) c.call.result c.call.ensures.answer
+    expr-answers c.args.self.now (view_of c.call.new.terms) (make_call c.args.function (numbers_of c.args.arguments.now)) (record { asks = refl; makes = refl; costs = refl; no-plan = refl; no-inputs = refl; number = refl; expressions = refl; plans = refl; fields = refl }) c.call.result c.call.ensures.answer

@@ -5,8 +5,8 @@ use Rattle.tables.proofs.Answers.{literal-answers, still-held}
 use Rattle.tables.proofs.tables.Tables.null.Goals as goal
 
 pub invariant_of-self : goal.invariant_of-self
-invariant_of-self c = still-held c.args.self.now (view_of c.null.new.self) (make_literal null_literal) c.null.result c.null.ensures.answer
+invariant_of-self c = still-held c.args.self.now (view_of c.null.new.terms) (make_literal null_literal) c.null.result c.null.ensures.answer
 
 pub returns : goal.returns
 returns c =
-    literal-answers c.args.self.now (view_of c.null.new.self) null_literal c.null.result c.null.ensures.answer
+    literal-answers c.args.self.now (view_of c.null.new.terms) null_literal c.null.result c.null.ensures.answer

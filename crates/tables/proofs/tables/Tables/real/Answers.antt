@@ -5,8 +5,8 @@ use Rattle.tables.proofs.Answers.{literal-answers, still-held}
 use Rattle.tables.proofs.tables.Tables.real.Goals as goal
 
 pub invariant_of-self : goal.invariant_of-self
-invariant_of-self c = still-held c.args.self.now (view_of c.real.new.self) (make_literal (real_literal c.args.x)) c.real.result c.real.ensures.answer
+invariant_of-self c = still-held c.args.self.now (view_of c.real.new.terms) (make_literal (real_literal c.args.x)) c.real.result c.real.ensures.answer
 
 pub returns : goal.returns
 returns c =
-    literal-answers c.args.self.now (view_of c.real.new.self) (real_literal c.args.x) c.real.result c.real.ensures.answer
+    literal-answers c.args.self.now (view_of c.real.new.terms) (real_literal c.args.x) c.real.result c.real.ensures.answer

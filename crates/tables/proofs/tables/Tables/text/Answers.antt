@@ -5,8 +5,8 @@ use Rattle.tables.proofs.Answers.{literal-answers, still-held}
 use Rattle.tables.proofs.tables.Tables.text.Goals as goal
 
 pub invariant_of-self : goal.invariant_of-self
-invariant_of-self c = still-held c.args.self.now (view_of c.text.new.self) (make_literal (text_literal c.args.bytes.now)) c.text.result c.text.ensures.answer
+invariant_of-self c = still-held c.args.self.now (view_of c.text.new.terms) (make_literal (text_literal c.args.bytes.now)) c.text.result c.text.ensures.answer
 
 pub returns : goal.returns
 returns c =
-    literal-answers c.args.self.now (view_of c.text.new.self) (text_literal c.args.bytes.now) c.text.result c.text.ensures.answer
+    literal-answers c.args.self.now (view_of c.text.new.terms) (text_literal c.args.bytes.now) c.text.result c.text.ensures.answer

@@ -5,8 +5,8 @@ use Rattle.tables.proofs.Answers.{literal-answers, still-held}
 use Rattle.tables.proofs.tables.Tables.truth.Goals as goal
 
 pub invariant_of-self : goal.invariant_of-self
-invariant_of-self c = still-held c.args.self.now (view_of c.truth.new.self) (make_literal (truth_literal c.args.b)) c.truth.result c.truth.ensures.answer
+invariant_of-self c = still-held c.args.self.now (view_of c.truth.new.terms) (make_literal (truth_literal c.args.b)) c.truth.result c.truth.ensures.answer
 
 pub returns : goal.returns
 returns c =
-    literal-answers c.args.self.now (view_of c.truth.new.self) (truth_literal c.args.b) c.truth.result c.truth.ensures.answer
+    literal-answers c.args.self.now (view_of c.truth.new.terms) (truth_literal c.args.b) c.truth.result c.truth.ensures.answer

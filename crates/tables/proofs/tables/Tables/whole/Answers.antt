@@ -4,7 +4,7 @@ use Rattle.plan.specs.declared.fault.Fault.{Fault}
 use Rattle.terms.specs.declared.node.ExprId.{ExprId}
 use Rattle.plan.specs.Calls.Call.{make_literal}
 use Rattle.plan.specs.Terms.Literal.{whole as whole_literal}
-use Rattle.terms.specs.Building.{Answered}
+use Rattle.expression.specs.Building.{Answered}
 use Rattle.terms.specs.Views.{View, view_of}
 use Rattle.tables.specs.Holding.{view_in}
 use Rattle.tables.proofs.Answers.{literal-answers, still-held}
@@ -14,8 +14,8 @@ said : (v w : View) (r : Result ExprId Fault) (n m : ℤ) → m ≡ n → Answer
 said v w r n m e a = subst (λ x. Answered v (make_literal (whole_literal x)) r w) e a
 
 pub invariant_of-self : goal.invariant_of-self
-invariant_of-self c = still-held c.args.self.now (view_of c.whole.new.self) (make_literal (whole_literal c.args.n)) c.whole.result (said (view_in c.args.self.now) (view_of c.whole.new.self) c.whole.result c.args.n _ (to_z-of_z w64 c.args.n c.ranges.n) c.whole.ensures.answer)
+invariant_of-self c = still-held c.args.self.now (view_of c.whole.new.terms) (make_literal (whole_literal c.args.n)) c.whole.result (said (view_in c.args.self.now) (view_of c.whole.new.terms) c.whole.result c.args.n _ (to_z-of_z w64 c.args.n c.ranges.n) c.whole.ensures.answer)
 
 pub returns : goal.returns
 returns c =
-    literal-answers c.args.self.now (view_of c.whole.new.self) (whole_literal c.args.n) c.whole.result (said (view_in c.args.self.now) (view_of c.whole.new.self) c.whole.result c.args.n _ (to_z-of_z w64 c.args.n c.ranges.n) c.whole.ensures.answer)
+    literal-answers c.args.self.now (view_of c.whole.new.terms) (whole_literal c.args.n) c.whole.result (said (view_in c.args.self.now) (view_of c.whole.new.terms) c.whole.result c.args.n _ (to_z-of_z w64 c.args.n c.ranges.n) c.whole.ensures.answer)

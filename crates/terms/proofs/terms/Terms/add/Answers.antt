@@ -1,7 +1,7 @@
 use Rattle.std.proofs.Common.{◌≡◌, true, [], length, sym, refl, ap, subst, arith}
 use Rattle.std.proofs.lemmas.List.{append-nil, length_push}
 use Rattle.terms.specs.Build.{inside_node}
-use Rattle.terms.specs.Lexicon.{functions_of, text_of}
+use Rattle.lexicon.specs.Lexicon.{functions_of, text_of}
 use Rattle.terms.specs.Views.{view_of}
 use Rattle.terms.specs.declared.node.ExprRecord.{ExprRecord}
 use Rattle.terms.proofs.Facts.{facts-of, facts-pushed, same_view, counted}

@@ -1,9 +1,9 @@
 use Rattle.std.proofs.Common.{[], map, sym, refl, rules, ◌∙◌}
 use Rattle.std.proofs.lemmas.List.{append-nil}
 use Rattle.table.proofs.Pushes.{pushed-map}
-use Rattle.terms.specs.Lexicon.{functions_of, text_of}
+use Rattle.lexicon.specs.Lexicon.{functions_of, text_of}
 use Rattle.terms.specs.Views.{view_of}
-use Rattle.terms.proofs.Begun.{at-once}
+use Rattle.lexicon.proofs.Begun.{at-once}
 use Rattle.terms.proofs.Facts.{facts-of, facts-grown, same_view}
 use Rattle.terms.proofs.Trees.{trees-grown}
 use Rattle.terms.proofs.terms.Terms.list.Goals as goal

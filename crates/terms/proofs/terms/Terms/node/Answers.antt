@@ -1,6 +1,6 @@
 use Rattle.std.proofs.Common.{◌≡◌, true, sym, ap, ◌∙◌, subst, arith}
 use Rattle.terms.specs.Build.{inside}
-use Rattle.terms.specs.Lexicon.{text_of}
+use Rattle.lexicon.specs.Lexicon.{text_of}
 use Rattle.terms.specs.Views.{tree_for}
 use Rattle.terms.proofs.Facts.{counted}
 use Rattle.terms.proofs.Trees.{tree-at}

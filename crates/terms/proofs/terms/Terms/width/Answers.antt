@@ -1,6 +1,6 @@
 use Rattle.std.proofs.Common.{arith}
 use Rattle.terms.specs.Build.{width_of}
-use Rattle.terms.specs.Lexicon.{functions_of}
+use Rattle.lexicon.specs.Lexicon.{functions_of}
 use Rattle.terms.specs.Views.{view_of}
 use Rattle.terms.proofs.Facts.{counted, kept_at}
 use Rattle.terms.proofs.terms.Terms.width.Goals as goal

@@ -1,6 +1,6 @@
 use Rattle.std.proofs.Common.{[], sym, refl, ◌∙◌}
 use Rattle.std.proofs.lemmas.List.{append-nil}
-use Rattle.terms.specs.Lexicon.{functions_of, text_of}
+use Rattle.lexicon.specs.Lexicon.{functions_of, text_of}
 use Rattle.terms.specs.Views.{view_of}
 use Rattle.terms.proofs.Facts.{facts-of, facts-grown, same_view}
 use Rattle.terms.proofs.Trees.{trees-grown}

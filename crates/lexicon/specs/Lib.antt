@@ -1,0 +1,4 @@
+pub mod Declarations
+pub mod Lexicon
+pub mod Declaring
+pub mod Begun

@@ -1,0 +1,5 @@
+//! Declared functions, and the text that names stand in.
+#![tactic(auto)]
+
+pub mod declaration;
+pub mod lexicon;
