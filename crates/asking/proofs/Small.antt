@@ -9,7 +9,7 @@ use Rattle.plan.specs.Calls.{below, all_below}
 use Rattle.terms.specs.Acceptance.{acceptable}
 use Rattle.terms.specs.Views.{numbers_of}
 use Rattle.terms.proofs.Bounds.{small}
-use Rattle.terms.proofs.Frames.{every-at, every_append}
+use Rattle.lexicon.proofs.Frames.{every-at, every_append}
 use Rattle.asking.specs.Asked.{functions_for, new_fields, new_tree}
 use Rattle.tables.specs.Holding.{view_in, trees_in}
 use Rattle.tables.specs.Making.{input_numbers, present, tree_for}

@@ -13,6 +13,7 @@ ghost use Rattle.terms.specs.Views.{numbers_of};
 
 use crate::asked::Asked;
 use draft::reading::has_short_names;
+use naming::resolving::resolved;
 use table::table::Table;
 use tables::node::{NewNode, SortKey};
 use tables::tables::Tables;
@@ -34,7 +35,7 @@ fn all_resolved(
     ensures { result ≡ every (resolved (map (stored_field (view_in tables.now).bytes) left.now ++ map (stored_field (view_in tables.now).bytes) right.now)) (exprs_in (view_in tables.now).trees (numbers_of ids.now)) }
 {
     ids.iter()
-        .all(|id| tables.terms().resolved(left, right, *id))
+        .all(|id| resolved(tables.terms(), left, right, *id))
 }
 
 /// Whether every reference of an expression resolves over an input.
@@ -43,7 +44,7 @@ fn one_resolved(tables: &Tables, input: PlanId, e: ExprId) -> bool
     requires present { e.0 < length (view_in tables.now).trees }
     ensures { result ≡ resolved (fields_at tables.now input.0) (expr_in (view_in tables.now).trees e.0) }
 {
-    tables.terms().resolved(tables.fields_of(input), &[], e)
+    resolved(tables.terms(), tables.fields_of(input), &[], e)
 }
 
 /// The same of some expressions.

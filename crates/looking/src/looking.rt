@@ -10,14 +10,16 @@ ghost use Rattle.plan.specs.Model.{expr_in};
 ghost use Rattle.plan.specs.declared.fault.Question.TheVariants.{Bounded, Present};
 ghost use Rattle.table.specs.Contents.{part};
 ghost use Rattle.terms.specs.Build.{numbers_in};
-ghost use Rattle.terms.specs.Spans.{function_in, stored_field, stored_in};
+ghost use Rattle.lexicon.specs.Declarations.{function_in};
+ghost use Rattle.terms.specs.Spans.{stored_field, stored_in};
 ghost use Rattle.names.specs.Spans.{span_in, word};
 ghost use Rattle.terms.specs.Views.{tree_for};
 
+use lexicon::declaration::Declaration;
 use plan::fault::{Fault, Question, ask};
 use tables::node::{PlanRecord, Run};
 use tables::tables::Tables;
-use terms::node::{Declaration, Entry, ExprId, ExprNode, PlanId, Span, StoredField};
+use terms::node::{Entry, ExprId, ExprNode, PlanId, Span, StoredField};
 
 /// A node: its kind, inputs and lists, the run of its fields, its size and its origin.
 pub fn plan(tables: &Tables, p: PlanId) -> Result<PlanRecord, Fault>

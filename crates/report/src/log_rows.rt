@@ -1,7 +1,6 @@
 //! A small log through the report, row by row, and expressions of the program's own on its rows.
 use crate::explain::{show_bytes, show_columns, show_expression};
 use crate::telling::{made, refused};
-use crate::valuing::{Outcome, Report, Valuing, is_kept, report_of};
 use crate::{MISSING, PLUS};
 use book::opened::OpenBook;
 use engine::Engine;
@@ -9,6 +8,7 @@ use engine::arithmetic::Arithmetic;
 use engine::pair::Pair;
 use engine::records::{Entry, Records};
 use evaluate::fits;
+use reporting::{Outcome, Report, Valuing, is_kept, report_of};
 use std::io;
 use terms::node::{ExprId, PlanId};
 use value::{Side, Text, Value, shown};

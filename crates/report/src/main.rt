@@ -20,7 +20,6 @@ mod helper;
 mod listing;
 mod log_rows;
 mod telling;
-mod valuing;
 mod versions;
 
 const EQUAL: u8 = 0;
