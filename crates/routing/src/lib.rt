@@ -1,0 +1,5 @@
+//! What of an expression the optimizer would move, and which input of a node owns it.
+#![tactic(auto)]
+
+pub mod marked;
+pub mod placement;
