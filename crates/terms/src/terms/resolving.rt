@@ -19,7 +19,8 @@ impl Terms {
         a.map(|s| self.word(s)) == b.map(|s| self.word(s))
     }
 
-    fn same_field(&self, a: StoredField, b: StoredField) -> bool
+    /// Whether two fields are the same.
+    pub fn same_field(&self, a: StoredField, b: StoredField) -> bool
         requires left { stored_in (view_of self.now).bytes a ≡ true }
         requires right { stored_in (view_of self.now).bytes b ≡ true }
         ensures { result ≡ same_field (stored_field (view_of self.now).bytes a) (stored_field (view_of self.now).bytes b) }
