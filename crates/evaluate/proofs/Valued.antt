@@ -18,7 +18,7 @@ use Rattle.terms.specs.declared.node.ExprNode.TheVariants.{Call}
 use Rattle.terms.specs.declared.node.Run.{Run}
 use Rattle.terms.specs.declared.terms.Terms.{Terms}
 use Rattle.lexicon.proofs.Frames.{every-at}
-use Rattle.terms.proofs.Walks.{called, listed_lower, resolved-arguments}
+use Rattle.terms.proofs.Walks.{argument, call-of, counted, entry_trees, long, resolved-arguments}
 use Rattle.rows.specs.Rows.{literal_value, seek, value_in, values_in}
 use Rattle.rows.specs.Worlds.{Row, World, applied}
 use Rattle.evaluate.specs.Evaluating.{bare}
@@ -88,38 +88,17 @@ pub one_more : {X : Type 0} (m : X → Value) (f : Expr → Value) (xs : List X)
 one_more m f xs es i x d lt in-es inv h =
     ap (map m) (take_more_set xs i x lt) ∙ map_push m (take i xs) x ∙ ap₂ (λ vs v. vs ++ v ∷ []) inv h ∙ sym (ap (map f) (take_more es i d in-es) ∙ map_push f (take i es) (get_or es i d))
 
--- the trees of a list of entries
-abbrev pub arguments_of : Terms → List Entry → List Expr
-arguments_of t xs = map (expr_in (view_of t).trees) (map entry_number xs)
-
-pub long : (t : Terms) (xs : List Entry) → length (arguments_of t xs) ≡ length xs
-long t xs = length-map (map entry_number xs) (expr_in (view_of t).trees) ∙ length-map xs entry_number
-
 -- what the walk knows of a call e whose arguments are the entries xs of the list table
 module _ (t : Terms) (e f : ℕ) (run : Run) (xs : List Entry) (items : xs ≡ part (view_of t).entries run.first run.count) (inside : inside_node (view_of t).bytes (view_of t).entries e (Call f run) ≡ true) (tree : tree_of t e ≡ tree_for t (Call f run)) where
-  pub call-of : tree_of t e ≡ call f (arguments (arguments_of t xs))
-  call-of = tree ∙ ap (λ l. call f (arguments (arguments_of t l))) (sym items)
-
-  pub counted : length xs ≡ run.count
-  counted = ap length items ∙ length_part (view_of t).entries run.first run.count (called (view_of t).bytes (view_of t).entries e f run inside).long
-
   pub enough : (room : ℕ) → size_of (tree_of t e) ≤ room → run.count ≤ room
-  enough room h = omega (arith, places (arguments_of t xs), long t xs, counted, ap size_of call-of)
+  enough room h = omega (arith, places (entry_trees t xs), long t xs, counted, ap size_of call-of)
 
   module _ (i a : ℕ) (d : Entry) (lt : i < length xs) (is : a ≡ entry_number (get_or xs i d)) where
-    pub lower : a < e
-    lower = omega (arith, is, listed_lower (view_of t).bytes (view_of t).entries xs e f run i d inside items lt)
-
-    pub argument : tree_of t a ≡ get_or (arguments_of t xs) i no_expr
-    argument =
-        ap (tree_of t) (is ∙ sym (get_or-map entry_number xs i d 0 lt))
-        ∙ sym (get_or-map (expr_in (view_of t).trees) (map entry_number xs) i 0 no_expr (omega (arith, lt, length-map xs entry_number)))
-
     pub argument-resolved : (fs : List Field) → resolved fs (tree_of t e) ≡ true → resolved fs (tree_of t a) ≡ true
     argument-resolved fs h =
         ap (resolved fs) argument
-        ∙ every-at (resolved fs) (arguments_of t xs) i no_expr (omega (arith, lt, long t xs)) (sym (resolved-arguments fs (arguments_of t xs)) ∙ sym (ap (resolved fs) call-of) ∙ h)
+        ∙ every-at (resolved fs) (entry_trees t xs) i no_expr (omega (arith, lt, long t xs)) (sym (resolved-arguments fs (entry_trees t xs)) ∙ sym (ap (resolved fs) call-of) ∙ h)
 
     pub argument-room : (room rest : ℕ) → size_of (tree_of t e) ≤ room → rest + run.count ≡ room → size_of (tree_of t a) ≤ rest
     argument-room room rest h k =
-        omega (arith, beside (arguments_of t xs) i no_expr (omega (arith, lt, long t xs)), long t xs, counted, ap size_of call-of, ap size_of argument)
+        omega (arith, beside (entry_trees t xs) i no_expr (omega (arith, lt, long t xs)), long t xs, counted, ap size_of call-of, ap size_of argument)

@@ -18,7 +18,8 @@ fn same_qualifier(terms: &Terms, a: Option<Span>, b: Option<Span>) -> bool
     a.map(|s| terms.word(s)) == b.map(|s| terms.word(s))
 }
 
-fn same_field(terms: &Terms, a: StoredField, b: StoredField) -> bool
+/// Whether two fields are the same.
+pub fn same_field(terms: &Terms, a: StoredField, b: StoredField) -> bool
     requires left { stored_in (view_of terms.now).bytes a ≡ true }
     requires right { stored_in (view_of terms.now).bytes b ≡ true }
     ensures { result ≡ same_field (stored_field (view_of terms.now).bytes a) (stored_field (view_of terms.now).bytes b) }

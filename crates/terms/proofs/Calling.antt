@@ -4,7 +4,7 @@ use Rattle.std.proofs.lemmas.List.{length-map}
 use Rattle.std.proofs.lemmas.Bool.{and_parts, and_from, le-leb, ltb-true}
 use Rattle.table.specs.Contents.{part}
 use Rattle.table.proofs.Parts.{part-added}
-use Rattle.plan.specs.Terms.{Expr, arguments, listed}
+use Rattle.plan.specs.Terms.{Expr, arguments}
 use Rattle.plan.specs.Terms.Expr.{call}
 use Rattle.plan.specs.Functions.{Functions, function_at, is_total}
 use Rattle.plan.specs.Fields.{any, every}
@@ -19,10 +19,7 @@ use Rattle.terms.specs.declared.node.Entry.{Entry}
 use Rattle.terms.specs.declared.node.Entry.TheVariants.{Expression}
 use Rattle.terms.specs.declared.node.ExprId.{ExprId}
 use Rattle.lexicon.proofs.Frames.{every-at}
-
-listed-arguments : (ts : List Expr) → listed (arguments ts) ≡ ts
-listed-arguments [] = refl
-listed-arguments (t ∷ ts) = ap (λ l. t ∷ l) (listed-arguments ts)
+use Rattle.terms.proofs.Walks.{listed-arguments}
 
 pub entries-numbers : (ids : List ExprId) → map entry_number (map Expression ids) ≡ numbers_of ids
 entries-numbers [] = refl

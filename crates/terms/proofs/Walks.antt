@@ -1,5 +1,5 @@
 -- What a walk over an expression goes by: the arguments of a call, and what a call's references are.
-use Rattle.std.proofs.Common.{◌≡◌, ℕ, ◌+◌, ◌<◌, ◌≤◌, Bool, true, false, ◌&&◌, ◌||◌, leb, List, [], ◌∷◌, ◌++◌, map, length, get_or, Option, sym, refl, ap, ◌∙◌, subst, arith}
+use Rattle.std.proofs.Common.{◌≡◌, ℕ, ◌+◌, ◌<◌, ◌≤◌, Bool, true, false, not, ◌&&◌, ◌||◌, leb, List, [], ◌∷◌, ◌++◌, map, length, get_or, Option, sym, refl, ap, ◌∙◌, subst, arith}
 use Rattle.std.proofs.lemmas.List.{length-map, get_or-map}
 use Rattle.std.proofs.lemmas.List.Folds.{list_all-map}
 use Rattle.std.proofs.lemmas.Bool.{and_parts, leb-true, ltb-true}
@@ -9,14 +9,22 @@ use Rattle.std.proofs.lemmas.Iterator.{YieldsList}
 use Rattle.std.proofs.lemmas.Iterator.Adapters.{serves_from_places}
 use Rattle.table.specs.Contents.{part}
 use Rattle.table.proofs.Parts.{length_part}
-use Rattle.plan.specs.Terms.{Field, Expr, arguments, references_of, references_of_all}
+use Rattle.plan.specs.Model.{expr_in, no_expr}
+use Rattle.plan.specs.Terms.Expr.{call}
+use Rattle.plan.specs.Terms.{Field, Expr, arguments, listed, references_of, references_of_all}
 use Rattle.plan.specs.Fields.{any, every, resolves, resolved}
-use Rattle.plan.specs.Calls.{below, all_below}
+use Rattle.plan.specs.Functions.{function_at, is_total}
+use Rattle.plan.specs.Questions.{small_tree}
+use Rattle.plan.specs.Calls.{below, all_below, arity_is}
+use Rattle.terms.specs.Acceptance.{acceptable, all_acceptable}
 use Rattle.terms.specs.Build.{numbers_in, inside_node}
 use Rattle.terms.specs.Entries.{entry_number}
 use Rattle.terms.specs.declared.node.Entry.{Entry}
 use Rattle.terms.specs.declared.node.ExprNode.TheVariants.{Call}
 use Rattle.terms.specs.declared.node.Run.{Run}
+use Rattle.terms.specs.declared.terms.Terms.{Terms}
+use Rattle.terms.specs.Views.{count, tree_for, tree_of, view_of}
+use Rattle.terms.proofs.Bounds.{few-arguments}
 use Rattle.lexicon.proofs.Frames.{every-at}
 
 pub record Called (es : List Entry) (e : ℕ) (run : Run) : Type 0 where
@@ -85,3 +93,42 @@ pub resolved-arguments : (fs : List Field) (ts : List Expr) → every (resolves 
 resolved-arguments fs [] = refl
 resolved-arguments fs (t ∷ ts) =
     every-both (resolves fs) (references_of t) (references_of_all (arguments ts)) ∙ ap (λ b. resolved fs t && b) (resolved-arguments fs ts)
+
+pub listed-arguments : (ts : List Expr) → listed (arguments ts) ≡ ts
+listed-arguments [] = refl
+listed-arguments (t ∷ ts) = ap (λ l. t ∷ l) (listed-arguments ts)
+
+-- the trees of a list of entries
+abbrev pub entry_trees : Terms → List Entry → List Expr
+entry_trees t xs = map (expr_in (view_of t).trees) (map entry_number xs)
+
+pub long : (t : Terms) (xs : List Entry) → length (entry_trees t xs) ≡ length xs
+long t xs = length-map (map entry_number xs) (expr_in (view_of t).trees) ∙ length-map xs entry_number
+
+-- what the walk knows of a call e whose arguments are the entries xs of the list table
+module _ (t : Terms) (e f : ℕ) (run : Run) (xs : List Entry) (items : xs ≡ part (view_of t).entries run.first run.count) (inside : inside_node (view_of t).bytes (view_of t).entries e (Call f run) ≡ true) (tree : tree_of t e ≡ tree_for t (Call f run)) where
+  pub call-of : tree_of t e ≡ call f (arguments (entry_trees t xs))
+  call-of = tree ∙ ap (λ l. call f (arguments (entry_trees t l))) (sym items)
+
+  pub counted : length xs ≡ run.count
+  counted = ap length items ∙ length_part (view_of t).entries run.first run.count (called (view_of t).bytes (view_of t).entries e f run inside).long
+
+  -- a function takes at most four
+  pub few : e < count t → length xs ≤ 4
+  few lt =
+      let fs = (view_of t).functions in
+      let ts = entry_trees t xs in
+      let es = arguments ts in
+      let ok = sym (ap (acceptable fs) call-of) ∙ every-at (acceptable fs) (view_of t).trees e no_expr lt t.accepted in
+      let p = and_parts (all_acceptable fs es) (arity_is (function_at fs f) (length (listed es)) && (not (any (is_total fs) (listed es)) && small_tree (call f es))) ok in
+      let q = and_parts (arity_is (function_at fs f) (length (listed es))) (not (any (is_total fs) (listed es)) && small_tree (call f es)) p.1 in
+      omega (arith, few-arguments fs f (length (listed es)) t.lexicon.good q.0, ap length (listed-arguments ts), long t xs)
+
+  module _ (i a : ℕ) (d : Entry) (lt : i < length xs) (is : a ≡ entry_number (get_or xs i d)) where
+    pub lower : a < e
+    lower = omega (arith, is, listed_lower (view_of t).bytes (view_of t).entries xs e f run i d inside items lt)
+
+    pub argument : tree_of t a ≡ get_or (entry_trees t xs) i no_expr
+    argument =
+        ap (tree_of t) (is ∙ sym (get_or-map entry_number xs i d 0 lt))
+        ∙ sym (get_or-map (expr_in (view_of t).trees) (map entry_number xs) i 0 no_expr (omega (arith, lt, length-map xs entry_number)))

@@ -12,7 +12,8 @@ use Rattle.value.specs.Meanings.{meaning_of}
 use Rattle.value.specs.declared.Value.TheVariants.{Null}
 use Rattle.evaluate.specs.Evaluating.{bare}
 use Rattle.evaluate.proofs.Found.{reference-found}
-use Rattle.evaluate.proofs.Valued.{argument, argument-resolved, argument-room, arguments_of, call-of, counted, enough, long, lower, of-alias, of-call, of-literal, of-reference, one_more}
+use Rattle.terms.proofs.Walks.{argument, call-of, counted, entry_trees, long, lower}
+use Rattle.evaluate.proofs.Valued.{argument-resolved, argument-room, enough, of-alias, of-call, of-literal, of-reference, one_more}
 use Rattle.evaluate.proofs.valuing.Row.+value_of.Goals as goal
 
 abbrev blank : Entry
@@ -66,9 +67,9 @@ loop-i-preserved g t c =
     let m = meaning_of (view_of s).bytes c.args.self.now.text.now in
     let value = value_in (bare (g.E.Engine.meaning c.args.engine.now) (view_of s).bytes c.args.self.now.text.now) (map (stored_field (view_of s).bytes) c.args.self.now.fields.now) (map m c.args.self.now.values.now) in
     let in-front : i < length c.loop-i.front = omega (arith, c.loop-i.auto.front, c.split_at_mut-front.ensures.front_len, counted s e f run xs items inside c.in-Call.ensures.tree, lt) in
-    let in_list : i < length (arguments_of s xs) = omega (arith, long s xs, lt) in
+    let in_list : i < length (entry_trees s xs) = omega (arith, long s xs, lt) in
     let is = argument s e f run xs items inside c.in-Call.ensures.tree i c.read.result.0 blank lt (ap (λ x. x.0) c.read.ensures) in
-    one_more m value c.loop-i.front (arguments_of s xs) i c.value_of-in-loop-i.result no_expr in-front in_list c.loop-i.invariant (c.value_of-in-loop-i.ensures ∙ ap value is)
+    one_more m value c.loop-i.front (entry_trees s xs) i c.value_of-in-loop-i.result no_expr in-front in_list c.loop-i.invariant (c.value_of-in-loop-i.ensures ∙ ap value is)
 
 pub returns-in-Constant : goal.returns-in-Constant
 returns-in-Constant g t c =
@@ -112,7 +113,7 @@ returns-after-loop-i g t c =
     let run = c.in-Call.arguments in
     let xs = c.entries-entry-items.result.now in
     let items = c.entries-entry-items.ensures in
-    let ts = arguments_of s xs in
+    let ts = entry_trees s xs in
     let meaning = g.E.Engine.meaning c.args.engine.now in
     let w = bare meaning bs row in
     let fs = map (stored_field bs) c.args.self.now.fields.now in

@@ -1,0 +1,3 @@
+mod Columns
+mod Marking
+mod Placing
