@@ -1,4 +1,4 @@
-//! Tests of the calls of a book: questions 6 to 9 at both sides of each bound that they have.
+//! Tests of the calls of a book: questions 6 to 9, at both sides of each bound that they have.
 #![tactic(auto)]
 
 #[cfg(test)]

@@ -1,5 +1,7 @@
-//! Tests of swaps, traces and `same_report`, at both sides of each bound that they have.
+//! Tests of the calls of a book: the order of the questions, and swaps, traces and `same_report`.
 #![tactic(auto)]
 
+#[cfg(test)]
+mod ordered;
 #[cfg(test)]
 mod swapped;

@@ -91,14 +91,14 @@ one_more m f xs es i x d lt in-es inv h =
 -- what the walk knows of a call e whose arguments are the entries xs of the list table
 module _ (t : Terms) (e f : ℕ) (run : Run) (xs : List Entry) (items : xs ≡ part (view_of t).entries run.first run.count) (inside : inside_node (view_of t).bytes (view_of t).entries e (Call f run) ≡ true) (tree : tree_of t e ≡ tree_for t (Call f run)) where
   pub enough : (room : ℕ) → size_of (tree_of t e) ≤ room → run.count ≤ room
-  enough room h = omega (arith, places (entry_trees t xs), long t xs, counted, ap size_of call-of)
+  enough room h = omega (arith, places (entry_trees t xs), long t xs, counted t e f run xs items inside tree, ap size_of (call-of t e f run xs items inside tree))
 
   module _ (i a : ℕ) (d : Entry) (lt : i < length xs) (is : a ≡ entry_number (get_or xs i d)) where
     pub argument-resolved : (fs : List Field) → resolved fs (tree_of t e) ≡ true → resolved fs (tree_of t a) ≡ true
     argument-resolved fs h =
-        ap (resolved fs) argument
-        ∙ every-at (resolved fs) (entry_trees t xs) i no_expr (omega (arith, lt, long t xs)) (sym (resolved-arguments fs (entry_trees t xs)) ∙ sym (ap (resolved fs) call-of) ∙ h)
+        ap (resolved fs) (argument t e f run xs items inside tree i a d lt is)
+        ∙ every-at (resolved fs) (entry_trees t xs) i no_expr (omega (arith, lt, long t xs)) (sym (resolved-arguments fs (entry_trees t xs)) ∙ sym (ap (resolved fs) (call-of t e f run xs items inside tree)) ∙ h)
 
     pub argument-room : (room rest : ℕ) → size_of (tree_of t e) ≤ room → rest + run.count ≡ room → size_of (tree_of t a) ≤ rest
     argument-room room rest h k =
-        omega (arith, beside (entry_trees t xs) i no_expr (omega (arith, lt, long t xs)), long t xs, counted, ap size_of call-of, ap size_of argument)
+        omega (arith, beside (entry_trees t xs) i no_expr (omega (arith, lt, long t xs)), long t xs, counted t e f run xs items inside tree, ap size_of (call-of t e f run xs items inside tree), ap size_of (argument t e f run xs items inside tree i a d lt is))

@@ -3,10 +3,12 @@
 
 ghost use Rattle.book.specs.Opened.{book_of};
 ghost use Rattle.evaluate.specs.Evaluating.{asked};
+ghost use Rattle.plan.specs.Calls.{below};
 ghost use Rattle.plan.specs.Faults.{Settled};
+ghost use Rattle.plan.specs.Model.{count_of};
 ghost use Rattle.plan.specs.Values.{is_true};
-ghost use Rattle.reporting.specs.Reporting.{Gives, Reads, ValueOf, column_asked, column_of, outcome_asked};
-ghost use Rattle.std.specs.Prelude.{◌≡◌, ℕ, List, IfOk, length};
+ghost use Rattle.reporting.specs.Reporting.{Gives, Reads, ValueOf, column_asked, column_of, is_report, outcome_asked};
+ghost use Rattle.std.specs.Prelude.{◌≡◌, ℕ, List, IfOk, is_ok, length};
 ghost use Rattle.tables.specs.Holding.{fields_at, tree_in, trees_in, view_in};
 ghost use Rattle.tables.specs.Stored.{build_plan_node};
 ghost use Rattle.value.specs.Meanings.{meaning_of};
@@ -38,7 +40,8 @@ pub struct Outcome {
 }
 
 fn node_of(book: &OpenBook, p: PlanId) -> anyhow::Result<PlanNode>
-    ensures { IfOk result (λ node. tree_in book.now.tables p.0 ≡ build_plan_node (view_in book.now.tables) (fields_at book.now.tables p.0) (trees_in book.now.tables) node) }
+    ensures there { is_ok result ≡ below (count_of (book_of book.now)) p.0 }
+    ensures node { IfOk result (λ node. tree_in book.now.tables p.0 ≡ build_plan_node (view_in book.now.tables) (fields_at book.now.tables p.0) (trees_in book.now.tables) node) }
 {
     match book.plan(p) {
         Ok(record) => Ok(record.node),
@@ -48,7 +51,8 @@ fn node_of(book: &OpenBook, p: PlanId) -> anyhow::Result<PlanNode>
 
 /// Reads a report out of the book.
 pub fn report_of(book: &OpenBook, p: PlanId) -> anyhow::Result<Report>
-    ensures { IfOk result (λ report. Reads book.now p.0 report) }
+    ensures there { is_ok result ≡ is_report (tree_in book.now.tables p.0) }
+    ensures read { IfOk result (λ report. Reads book.now p.0 report) }
 {
     let PlanNode::Filter {
         input: projection,

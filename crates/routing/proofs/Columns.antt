@@ -1,5 +1,5 @@
 -- Which columns an expression has, kind by kind.
-use Rattle.std.proofs.Common.{◌≡◌, ℕ, Bool, true, false, ◌&&◌, ◌||◌, List, [], ◌∷◌, map, refl, sym, ap, ◌∙◌}
+use Rattle.std.proofs.Common.{◌≡◌, ℕ, Bool, true, false, ◌&&◌, ◌||◌, List, [], ◌∷◌, refl, ap, ◌∙◌}
 use Rattle.plan.specs.Fields.{any, every}
 use Rattle.plan.specs.Plans.{without_qualifier}
 use Rattle.plan.specs.Terms.{Expr, Field, Literal, arguments, same_field}

@@ -1,3 +1,5 @@
 mod Columns
+mod Equals
 mod Marking
+mod Nulls
 mod Placing

@@ -1,5 +1,5 @@
 -- Whether an expression is Marked or a part of it, kind by kind.
-use Rattle.std.proofs.Common.{◌≡◌, ℕ, Bool, false, ◌||◌, ◌⊎◌, List, [], ◌∷◌, refl, ap, ◌∙◌, inl, inr}
+use Rattle.std.proofs.Common.{◌≡◌, ℕ, false, ◌||◌, ◌⊎◌, List, [], ◌∷◌, refl, ap, ◌∙◌, inl, inr}
 use Rattle.plan.specs.Fields.{any}
 use Rattle.plan.specs.Functions.{Functions, is_marked, placement_of}
 use Rattle.plan.specs.Terms.{Expr, Field, arguments}

@@ -18,7 +18,9 @@ fn is_null(literal: Literal) -> bool
 fn is_strict(terms: &Terms, number: u8) -> bool
     ensures { result ≡ strict_in (function_at (view_of terms.now).functions number) }
 {
-    terms.function(number).is_some_and(|declared| declared.strict)
+    terms
+        .function(number)
+        .is_some_and(|declared| declared.strict)
 }
 
 /// Whether an expression is null wherever all its columns are: a column, the null literal, or a strict call with such an

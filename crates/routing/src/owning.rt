@@ -107,5 +107,8 @@ pub fn find_owning_input(
     requires present { e.0 < count terms.now }
     ensures { option_map side_of result ≡ find_owning_input (schema_columns (map (stored_field (view_of terms.now).bytes) left.now)) (schema_columns (map (stored_field (view_of terms.now).bytes) right.now)) (tree_of terms.now e.0) }
 {
-    owner(has_all_column_refs(terms, left, e), has_all_column_refs(terms, right, e))
+    owner(
+        has_all_column_refs(terms, left, e),
+        has_all_column_refs(terms, right, e),
+    )
 }

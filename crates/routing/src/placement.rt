@@ -79,7 +79,11 @@ fn placed_by(rule: Rule, arguments: &[ExpressionPlacement]) -> ExpressionPlaceme
         Rule::AnyColumn => is_any_column(arguments),
         Rule::Always => true,
     };
-    if moves { MoveTowardsLeafNodes } else { KeepInPlace }
+    if moves {
+        MoveTowardsLeafNodes
+    } else {
+        KeepInPlace
+    }
 }
 
 /// Where the optimizer would have an expression.

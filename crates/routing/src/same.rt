@@ -41,10 +41,19 @@ pub fn same_expr(terms: &Terms, a: ExprId, b: ExprId) -> bool
             same_expr(terms, d, e) && same_field(terms, f, g)
         }
         (
-            ExprNode::Call { function: m, arguments: first },
-            ExprNode::Call { function: n, arguments: second },
+            ExprNode::Call {
+                function: m,
+                arguments: first,
+            },
+            ExprNode::Call {
+                function: n,
+                arguments: second,
+            },
         ) => {
-            if m != n || first.count != second.count {
+            if m != n {
+                return false;
+            }
+            if first.count != second.count {
                 return false;
             }
             let others = terms.entries(second);

@@ -19,6 +19,7 @@ ghost use Rattle.names.specs.Spans.{span_in, word};
 ghost use Rattle.terms.specs.Views.{tree_for};
 
 use super::OpenBook;
+use lexicon::declaration::Declaration;
 use looking::looking::{entry, expr, field, function, listed, node_fields, plan, word};
 use looking::tracing::trace;
 use plan::fault::Fault;

@@ -1,4 +1,4 @@
-use Rattle.std.proofs.Common.{◌≡◌, ◌+◌, ◌||◌, Bool, true, false, drop, map, sym, refl, ap, ap₂, ◌∙◌, arith}
+use Rattle.std.proofs.Common.{◌≡◌, ◌+◌, ◌||◌, true, false, drop, sym, ap, ap₂, ◌∙◌, arith}
 use Rattle.std.proofs.Math.Bool.{or-true}
 use Rattle.table.specs.Contents.{part}
 use Rattle.table.proofs.Loops.{twice-step, twice-end}
@@ -9,7 +9,7 @@ use Rattle.plan.specs.Terms.{arguments}
 use Rattle.plan.specs.Terms.Expr.{call}
 use Rattle.rewriting.specs.Routing.{holds_marked}
 use Rattle.terms.specs.Entries.{entry_number}
-use Rattle.terms.specs.Spans.{literal_at, stored_field}
+use Rattle.terms.specs.Spans.{stored_field}
 use Rattle.terms.specs.Views.{tree_of, view_of}
 use Rattle.terms.specs.declared.node.Entry.{Entry}
 use Rattle.terms.specs.declared.node.Entry.TheVariants.{Expression}

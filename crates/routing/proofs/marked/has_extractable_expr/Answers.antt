@@ -1,11 +1,8 @@
 use Rattle.std.proofs.Common.{◌∙◌, map, sym, rules}
 use Rattle.std.proofs.lemmas.Iterator.{YieldsList-from_slice}
 use Rattle.std.proofs.lemmas.Iterator.Search.{any_from_yields_List}
-use Rattle.plan.specs.Fields.{any}
-use Rattle.plan.specs.Functions.{Functions}
 use Rattle.plan.specs.Model.{expr_in}
-use Rattle.plan.specs.Terms.{Expr}
-use Rattle.rewriting.specs.Routing.{has_extractable_expr, holds_marked}
+use Rattle.rewriting.specs.Routing.{holds_marked}
 use Rattle.terms.specs.Views.{count, view_of}
 use Rattle.terms.proofs.Walks.{any-twice, serves_low}
 use Rattle.routing.proofs.Marking.{of-some}

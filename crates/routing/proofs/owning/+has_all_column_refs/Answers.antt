@@ -1,4 +1,4 @@
-use Rattle.std.proofs.Common.{◌≡◌, ◌+◌, ◌&&◌, Bool, true, false, drop, map, sym, refl, ap, ◌∙◌, arith}
+use Rattle.std.proofs.Common.{◌+◌, ◌&&◌, drop, map, sym, ap, ◌∙◌, arith}
 use Rattle.table.proofs.Loops.{twice-step, twice-end}
 use Rattle.plan.specs.Fields.{every}
 use Rattle.plan.specs.Model.{expr_in}

@@ -1,4 +1,4 @@
-use Rattle.std.proofs.Common.{[], ◌∷◌, ◌≡◌, ◌<◌, ◌≤◌, map, length, sym, refl, ap, ◌∙◌, arith, length-append}
+use Rattle.std.proofs.Common.{[], ◌∷◌, map, length, sym, ap, ◌∙◌, arith, length-append}
 use Rattle.std.proofs.lemmas.List.{take_all}
 use Rattle.plan.specs.Functions.{placed_by as placed_tree, placement_of, rule_in, function_at}
 use Rattle.plan.specs.Model.{no_expr}
@@ -30,8 +30,7 @@ loop-entry-preserved t c =
     let xs = c.entries-entry-items.result.now in
     let F = (view_of s).functions in
     let i = c.loop-entry.entry-index in
-    let is = argument s c.args.e.0 c.in-Call.function c.in-Call.arguments xs c.entries-entry-items.ensures c.in-Call.ensures.inside c.in-Call.ensures.tree i c.read.result.0 blank c.loop-entry-test.true (ap (λ x. x.0) c.read.ensures) in
-    (
+    let is = argument s c.args.e.0 c.in-Call.function c.in-Call.arguments xs c.entries-entry-items.ensures c.in-Call.ensures.inside c.in-Call.ensures.tree i c.read.result.0 blank c.loop-entry-test.true (ap (λ x. x.0) c.read.ensures) in (
       omega (arith, ap length c.push.ensures, length-append c.loop-entry.placements (c.placement-in-loop-entry.result ∷ []), c.loop-entry.invariant.0),
       one_more F c.loop-entry.placements c.push.new.self (entry_trees s xs) i c.placement-in-loop-entry.result no_expr (omega (arith, long s xs, c.loop-entry-test.true)) c.loop-entry.invariant.1 c.push.ensures (c.placement-in-loop-entry.ensures ∙ ap (placement_of F) is),
     )
