@@ -1,4 +1,4 @@
--- What the calls that make an expression answer and leave; cited by src.
+-- What the calls that make an expression answer and leave; cited by src/building.rt and src/calling.rt.
 --     bare v      a book with these expressions and nothing else
 --     roomy v s      the tables of expressions have room for so much more
 --     Grew v c r v', Kept v c f v'      a call that made an expression; a call that was refused

@@ -1,8 +1,8 @@
 //! The calls that make an expression.
 ghost use Rattle.std.specs.Prelude.{◌≡◌, ◌+◌, ◌<◌, ◌≤◌, true, [], ◌++◌, length, nat_le};
 ghost use Rattle.plan.specs.Terms.{size_of};
-ghost use Rattle.plan.specs.Calls.Call.{make_alias, make_call, make_literal, make_reference};
-ghost use Rattle.plan.specs.Calls.{below, good_alias, good_field, good_qualifier, qualifier_bytes};
+ghost use Rattle.plan.specs.Calls.Call.{make_alias, make_literal, make_reference};
+ghost use Rattle.plan.specs.Calls.{good_alias, good_field, qualifier_bytes};
 ghost use Rattle.plan.specs.Faults.{Decided};
 ghost use Rattle.plan.specs.Model.{space};
 ghost use Rattle.plan.specs.Terms.Literal.{null as null_literal, real as real_literal, text as text_literal, truth as truth_literal, whole as whole_literal};

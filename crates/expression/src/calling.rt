@@ -1,10 +1,9 @@
 //! The call that makes a call of a declared function.
-ghost use Rattle.std.specs.Prelude.{◌≡◌, ◌+◌, ◌≤◌, true, ◌&&◌, length, is_some, nat_le};
+ghost use Rattle.std.specs.Prelude.{◌≡◌, ◌+◌, ◌≤◌, ◌&&◌, length, is_some, nat_le};
 ghost use Rattle.plan.specs.Calls.Call.{make_call};
 ghost use Rattle.plan.specs.Calls.{all_below, arity_is};
-ghost use Rattle.plan.specs.Fields.{any};
-ghost use Rattle.plan.specs.Functions.{function_at, is_total};
-ghost use Rattle.plan.specs.Model.{exprs_in, space};
+ghost use Rattle.plan.specs.Functions.{function_at};
+ghost use Rattle.plan.specs.Model.{space};
 ghost use Rattle.plan.specs.Faults.{Decided};
 ghost use Rattle.plan.specs.declared.fault.Question.TheVariants.{Space as SpaceQuestion};
 ghost use Rattle.plan.specs.Rendering.{rendered_rest};

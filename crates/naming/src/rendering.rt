@@ -1,6 +1,5 @@
 //! Rendered names.
 ghost use Rattle.std.specs.Prelude.{◌≡◌, ◌+◌, ◌<◌, ◌≤◌, true, ◌++◌, length};
-ghost use Rattle.plan.specs.Functions.{function_at, name_in};
 ghost use Rattle.plan.specs.Rendering.{rendered, rendered_literal};
 ghost use Rattle.plan.specs.Terms.Expr.{reference};
 ghost use Rattle.terms.specs.Build.{gap, width_of};

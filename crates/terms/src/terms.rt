@@ -1,4 +1,4 @@
-//! The expressions; what builds and reads them stands below, so that it can cite `specs/Views.antt`.
+//! The expressions; what adds and reads them stands below, so that it can cite `specs/Views.antt`.
 ghost use Rattle.plan.specs.Fields.{every};
 ghost use Rattle.plan.specs.Terms.{size_of};
 ghost use Rattle.terms.specs.Acceptance.{acceptable};

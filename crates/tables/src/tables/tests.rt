@@ -12,7 +12,7 @@ use std::test::Fail;
 use terms::node::ExprId;
 
 /// A text literal.
-// By the calls of Terms, which promise that the tables begin with what there was.
+// By the calls of `expression`, which promise that the tables begin with what there was.
 fn text(tables: &mut Tables, bytes: &[u8]) -> Result<ExprId, Fault>
     ensures { TablesBegin tables.old tables.new }
 {

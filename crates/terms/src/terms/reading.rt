@@ -1,5 +1,5 @@
 //! What is asked of expressions.
-ghost use Rattle.std.specs.Prelude.{◌≡◌, ◌+◌, ◌<◌, ◌≤◌, true, map, length, slice_index, slice_index_or};
+ghost use Rattle.std.specs.Prelude.{◌≡◌, ◌+◌, ◌<◌, ◌≤◌, true, length, slice_index, slice_index_or};
 ghost use Rattle.plan.specs.Calls.{all_below, below};
 ghost use Rattle.plan.specs.Fields.{any};
 ghost use Rattle.plan.specs.Functions.{function_at, is_total, name_in, rule_in};
