@@ -5,11 +5,11 @@ ghost use Rattle.tables.specs.Holding.{model_of};
 use tables::tables::Tables;
 
 mod expressions;
-mod looking;
+mod reading;
 mod nodes;
 mod opening;
 mod promising;
-mod swapping;
+mod swap;
 
 #[derive(Drop)]
 pub struct OpenBook {

@@ -1,7 +1,7 @@
 use Rattle.std.proofs.Common.{ℕ, ◌+◌, ◌&&◌, leb, ltb, [], ◌∷◌, length, subst}
 use Rattle.plan.specs.Faults.{Asked, Settled}
 use Rattle.plan.specs.declared.fault.Question.TheVariants.{Bounded}
-use Rattle.tables.specs.Looking.{entry_count}
+use Rattle.looking.specs.Looking.{entry_count}
 use Rattle.book.specs.Opened.{book_of}
 use Rattle.evaluate.specs.Evaluating.{asked}
 use Rattle.reporting.specs.Reporting.{ValueOf, column_of}
