@@ -1,7 +1,7 @@
 //! What a node that is to be made is asked, and how it is made.
 #![tactic(auto)]
 
-pub mod asked;
+mod asked;
 mod asking;
 mod drafting;
 mod lawful;

@@ -21,6 +21,8 @@ use tables::node::{PlanRecord, Run};
 use tables::tables::Tables;
 use terms::node::{Entry, ExprId, ExprNode, PlanId, Span, StoredField};
 
+// Free functions, here and in `tracing`: Tables is a type of another crate, so that they cannot be its methods.
+
 /// A node: its kind, inputs and lists, the run of its fields, its size and its origin.
 pub fn plan(tables: &Tables, p: PlanId) -> Result<PlanRecord, Fault>
     ensures { Looked ((Present, below (plan_count tables.now) p.0) ∷ []) (ReadsAs tables.now p.0) result }

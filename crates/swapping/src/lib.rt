@@ -1,6 +1,6 @@
 //! A node with one input replaced by another of the same origin.
 #![tactic(auto)]
 
-pub mod copying;
+mod copying;
 mod remaking;
 pub mod swapping;

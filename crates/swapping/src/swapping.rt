@@ -11,6 +11,8 @@ use plan::fault::{Fault, Question, ask};
 use tables::tables::Tables;
 use terms::node::PlanId;
 
+// Free functions, here and in `remaking`: Tables is a type of another crate, so that they cannot be its methods.
+
 /// Whether two nodes stand in the book.
 fn has_both(tables: &Tables, a: PlanId, b: PlanId) -> bool
     ensures { result ≡ (below (plan_count tables.now) a.0 && below (plan_count tables.now) b.0) }

@@ -8,8 +8,7 @@ use Rattle.plan.specs.Plans.{fields_of, plan_size_of}
 use Rattle.plan.specs.Fields.{every}
 use Rattle.plan.specs.Questions.{limited, expressions_of, shown_expressions, small_tree, short_name}
 use Rattle.plan.specs.Model.{Space, fits}
-use Rattle.plan.specs.Names.{good_name}
-use Rattle.plan.specs.Calls.{rendered_bytes, parts}
+use Rattle.plan.specs.Calls.{rendered_bytes}
 use Rattle.terms.specs.Spans.{stored_field, stored_in}
 use Rattle.names.specs.Spans.{word}
 use Rattle.terms.specs.Views.{View, grown}
@@ -17,13 +16,12 @@ use Rattle.terms.specs.declared.node.Entry.{Entry}
 use Rattle.terms.specs.declared.node.Entry.TheVariants.{Expression, Input}
 use Rattle.terms.specs.declared.node.PlanId.{PlanId}
 use Rattle.terms.specs.declared.node.StoredField.{StoredField}
-use Rattle.terms.proofs.Bounds.{name-short}
 use Rattle.draft.specs.Drafts.{draft_field, draft_in, draft_bytes, StoredAll}
 use Rattle.draft.specs.declared.word.DraftField.{DraftField}
 use Rattle.draft.proofs.Keeping.{drafts-grown}
 use Rattle.tables.specs.Stored.{fields_in, build_plan_node, build_plan, plan_nodes, node_trees, node_inputs, inputs_from, inside_node, accepted_node, inside_plan}
 use Rattle.tables.specs.Holding.{view_in, nodes_of, trees_in, plan_count, model_from, model_of}
-use Rattle.tables.specs.Making.{tree_for, tree_over, entries_for, bytes_for, outlay_for, bounded, well_named, inputs_for, NodeStored}
+use Rattle.tables.specs.Making.{tree_for, tree_over, entries_for, bytes_for, outlay_for, well_named, inputs_for, NodeStored}
 use Rattle.tables.specs.Keys.{key_entry}
 use Rattle.tables.specs.Placing.{own_text, own_entries, lent_owner, lent_given, PlacedAs}
 use Rattle.tables.specs.declared.node.NewNode.{NewNode}

@@ -1,4 +1,4 @@
--- A node that is to be made; cited by src/tables/making.rt and the modules beside it.
+-- A node that is to be made; cited by src/placing.rt, src/tables/adding.rt and the crates above.
 --     tree_over v k ts n, tree_for t n      the tree that it would be
 --     present_in v k n, present t n, bounded n, well_named n      what a building call has asked before: questions 1, 3 and 2
 --     inputs_for n      the numbers of its inputs

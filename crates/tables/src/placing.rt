@@ -46,7 +46,7 @@ impl From<PlanNode> for Placed {
 }
 
 /// Puts the names and lists of the node `number` into the tables.
-// Clauses, not an Asked: that borrows the tables, and this call writes them.
+// Clauses, not a type that keeps them: such a type would borrow the tables, and this call writes them.
 pub fn place(terms: &mut Terms, node: NewNode<'_>, number: PlanId) -> Placed
     requires present { present_in (view_of terms.old) number.0 node ≡ true }
     requires bounded { bounded node ≡ true }

@@ -1,13 +1,11 @@
 use Rattle.std.proofs.Common.{◌≡◌, length, sym, refl, ap, ◌∙◌, arith, lit<, length-append}
 use Rattle.std.proofs.lemmas.List.{length-map, length_push}
-use Rattle.plan.specs.Fields.{every}
 use Rattle.terms.specs.Spans.{stored_field}
 use Rattle.terms.specs.Views.{view_of}
-use Rattle.draft.specs.Drafts.{draft_bytes}
 use Rattle.tables.specs.Holding.{view_in, model_of}
 use Rattle.tables.specs.Making.{present_in, outlay_for}
 use Rattle.tables.proofs.Held.{counted}
-use Rattle.tables.proofs.Adding.{fits-parts, stored-for, draft-kept, draft-long, bytes_left, added-facts, added}
+use Rattle.tables.proofs.Adding.{fits-parts, draft-kept, draft-long, bytes_left, added-facts, added}
 use Rattle.tables.proofs.tables.Tables.add.Goals as goal
 
 pub place-placed-requires : goal.place-placed-requires
