@@ -5,10 +5,10 @@ ghost use Rattle.tables.specs.Holding.{model_of};
 use tables::tables::Tables;
 
 mod expressions;
-mod reading;
 mod nodes;
 mod opening;
 mod promising;
+mod reading;
 mod swap;
 
 #[derive(Drop)]
