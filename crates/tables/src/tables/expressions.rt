@@ -1,5 +1,6 @@
 //! The calls that make an expression.
 ghost use Rattle.tables.specs.Answering.{answered_expr};
+ghost use Rattle.tables.specs.Begun.{TablesBegin};
 ghost use Rattle.tables.specs.Holding.{model_of};
 ghost use Rattle.plan.specs.Calls.Call.{make_alias, make_call, make_literal, make_reference};
 ghost use Rattle.plan.specs.Calls.{Answers};
@@ -15,42 +16,48 @@ use terms::node::ExprId;
 impl Tables {
     /// The null literal.
     pub fn null(&mut self) -> Result<ExprId, Fault>
-        ensures { Answers (model_of self.old) (make_literal null_literal) (answered_expr result) (model_of self.new) }
+        ensures answer { Answers (model_of self.old) (make_literal null_literal) (answered_expr result) (model_of self.new) }
+        ensures begins { TablesBegin self.old self.new }
     {
         building::null(&mut self.terms)
     }
 
     /// A truth literal.
     pub fn truth(&mut self, b: bool) -> Result<ExprId, Fault>
-        ensures { Answers (model_of self.old) (make_literal (truth_literal b)) (answered_expr result) (model_of self.new) }
+        ensures answer { Answers (model_of self.old) (make_literal (truth_literal b)) (answered_expr result) (model_of self.new) }
+        ensures begins { TablesBegin self.old self.new }
     {
         building::truth(&mut self.terms, b)
     }
 
     /// A whole number.
     pub fn whole(&mut self, n: i64) -> Result<ExprId, Fault>
-        ensures { Answers (model_of self.old) (make_literal (whole_literal n)) (answered_expr result) (model_of self.new) }
+        ensures answer { Answers (model_of self.old) (make_literal (whole_literal n)) (answered_expr result) (model_of self.new) }
+        ensures begins { TablesBegin self.old self.new }
     {
         building::whole(&mut self.terms, n)
     }
 
     /// A real.
     pub fn real(&mut self, x: f64) -> Result<ExprId, Fault>
-        ensures { Answers (model_of self.old) (make_literal (real_literal x)) (answered_expr result) (model_of self.new) }
+        ensures answer { Answers (model_of self.old) (make_literal (real_literal x)) (answered_expr result) (model_of self.new) }
+        ensures begins { TablesBegin self.old self.new }
     {
         building::real(&mut self.terms, x)
     }
 
     /// A text literal.
     pub fn text(&mut self, bytes: &[u8]) -> Result<ExprId, Fault>
-        ensures { Answers (model_of self.old) (make_literal (text_literal bytes.now)) (answered_expr result) (model_of self.new) }
+        ensures answer { Answers (model_of self.old) (make_literal (text_literal bytes.now)) (answered_expr result) (model_of self.new) }
+        ensures begins { TablesBegin self.old self.new }
     {
         building::text(&mut self.terms, bytes)
     }
 
     /// A reference to a column.
     pub fn reference(&mut self, name: &[u8], qualifier: Option<&[u8]>) -> Result<ExprId, Fault>
-        ensures { Answers (model_of self.old) (make_reference (given_field name.now qualifier.entry)) (answered_expr result) (model_of self.new) }
+        ensures answer { Answers (model_of self.old) (make_reference (given_field name.now qualifier.entry)) (answered_expr result) (model_of self.new) }
+        ensures begins { TablesBegin self.old self.new }
     {
         building::reference(&mut self.terms, name, qualifier)
     }
@@ -62,14 +69,16 @@ impl Tables {
         name: &[u8],
         qualifier: Option<&[u8]>,
     ) -> Result<ExprId, Fault>
-        ensures { Answers (model_of self.old) (make_alias inner.0 (given_field name.now qualifier.entry)) (answered_expr result) (model_of self.new) }
+        ensures answer { Answers (model_of self.old) (make_alias inner.0 (given_field name.now qualifier.entry)) (answered_expr result) (model_of self.new) }
+        ensures begins { TablesBegin self.old self.new }
     {
         building::alias(&mut self.terms, inner, name, qualifier)
     }
 
     /// A call of a declared function.
     pub fn call(&mut self, function: u8, arguments: &[ExprId]) -> Result<ExprId, Fault>
-        ensures { Answers (model_of self.old) (make_call function (numbers_of arguments.now)) (answered_expr result) (model_of self.new) }
+        ensures answer { Answers (model_of self.old) (make_call function (numbers_of arguments.now)) (answered_expr result) (model_of self.new) }
+        ensures begins { TablesBegin self.old self.new }
     {
         calling::call(&mut self.terms, function, arguments)
     }
