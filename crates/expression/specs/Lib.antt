@@ -1,1 +1,2 @@
 pub mod Building
+pub mod Reusing

@@ -3,3 +3,4 @@
 
 pub mod building;
 pub mod calling;
+pub mod reusing;

@@ -70,7 +70,7 @@ pub record SameCall (m : Model) (v : View) (c : Call) : Type 0 where
   pub plans : (outlay (bare v) c).plans ≡ 0
   pub fields : (outlay (bare v) c).fields ≡ 0
 
-fits-roomy : (v : View) (p f : ℕ) (o : Space) → p ≤ 128 → f ≤ 2048 → o.plans ≡ 0 → o.fields ≡ 0 → fits (space (length v.trees) p (length v.entries) f (length v.bytes)) o ≡ roomy v o
+pub fits-roomy : (v : View) (p f : ℕ) (o : Space) → p ≤ 128 → f ≤ 2048 → o.plans ≡ 0 → o.fields ≡ 0 → fits (space (length v.trees) p (length v.entries) f (length v.bytes)) o ≡ roomy v o
 fits-roomy v p f o hp hf ep ef =
     let a = leb (length v.trees + o.exprs) 1024 in
     let c = leb (length v.entries + o.entries) 2048 in

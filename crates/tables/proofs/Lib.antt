@@ -4,6 +4,7 @@ pub mod Held
 pub mod Inputs
 pub mod Placings
 pub mod Answers
+pub mod Reusing
 pub mod Adding
 pub mod Origins
 pub mod Begun

@@ -5,6 +5,7 @@ pub mod Making
 pub mod Placing
 pub mod Listing
 pub mod Answering
+pub mod Reusing
 pub mod Drafting
 pub mod Keys
 pub mod Origins

@@ -1,17 +1,23 @@
 //! The calls that make an expression.
 ghost use Rattle.tables.specs.Answering.{answered_expr};
 ghost use Rattle.tables.specs.Begun.{TablesBegin};
-ghost use Rattle.tables.specs.Holding.{model_of};
+ghost use Rattle.tables.specs.Holding.{model_of, view_in};
+ghost use Rattle.tables.specs.Reusing.{Reused};
+ghost use Rattle.std.specs.Prelude.{◌≡◌, ◌<◌, true, length};
 ghost use Rattle.plan.specs.Calls.Call.{make_alias, make_call, make_literal, make_reference};
-ghost use Rattle.plan.specs.Calls.{Answers};
+ghost use Rattle.plan.specs.Calls.{Answers, good_alias, good_field};
+ghost use Rattle.plan.specs.Model.{expr_in};
+ghost use Rattle.plan.specs.Questions.{small_tree};
+ghost use Rattle.plan.specs.Terms.Expr.{alias as alias_tree, reference as reference_tree};
 ghost use Rattle.plan.specs.Terms.Literal.{null as null_literal, real as real_literal, text as text_literal, truth as truth_literal, whole as whole_literal};
 ghost use Rattle.expression.specs.Building.{given_field};
+ghost use Rattle.terms.specs.Spans.{stored_field, stored_in};
 ghost use Rattle.terms.specs.Views.{numbers_of};
 
 use super::Tables;
-use expression::{building, calling};
+use expression::{building, calling, reusing};
 use plan::fault::Fault;
-use terms::node::ExprId;
+use terms::node::{ExprId, StoredField};
 
 impl Tables {
     /// The null literal.
@@ -81,5 +87,27 @@ impl Tables {
         ensures begins { TablesBegin self.old self.new }
     {
         calling::call(&mut self.terms, function, arguments)
+    }
+
+    /// A reference to a field that is stored already.
+    pub fn column(&mut self, field: StoredField) -> Result<ExprId, Fault>
+        requires stored { stored_in (view_in self.old).bytes field ≡ true }
+        requires good { good_field (stored_field (view_in self.old).bytes field) ≡ true }
+        ensures answer { Reused (model_of self.old) (reference_tree (stored_field (view_in self.old).bytes field)) result (model_of self.new) }
+        ensures begins { TablesBegin self.old self.new }
+    {
+        reusing::column(&mut self.terms, field)
+    }
+
+    /// An expression under the name of a field that is stored already.
+    pub fn alias_as(&mut self, inner: ExprId, field: StoredField) -> Result<ExprId, Fault>
+        requires present { inner.0 < length (view_in self.old).trees }
+        requires stored { stored_in (view_in self.old).bytes field ≡ true }
+        requires good { good_alias (stored_field (view_in self.old).bytes field) ≡ true }
+        requires small { small_tree (alias_tree (expr_in (view_in self.old).trees inner.0) (stored_field (view_in self.old).bytes field)) ≡ true }
+        ensures answer { Reused (model_of self.old) (alias_tree (expr_in (view_in self.old).trees inner.0) (stored_field (view_in self.old).bytes field)) result (model_of self.new) }
+        ensures begins { TablesBegin self.old self.new }
+    {
+        reusing::alias_as(&mut self.terms, inner, field)
     }
 }
