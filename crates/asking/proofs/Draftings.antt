@@ -12,11 +12,11 @@ use Rattle.plan.specs.Fields.{every}
 use Rattle.plan.specs.Questions.{shown_expressions}
 use Rattle.plan.specs.Model.{plan_in, plans_in}
 use Rattle.plan.specs.Calls.{below, all_below, first_part, parts, union_of, rendered_bytes}
-use Rattle.terms.specs.Spans.{stored_field, stored_in}
+use Rattle.entries.specs.Spans.{stored_field, stored_in}
 use Rattle.names.specs.Spans.{word, span_in}
 use Rattle.terms.specs.Views.{View}
-use Rattle.terms.specs.declared.node.PlanId.{PlanId}
-use Rattle.terms.specs.declared.node.StoredField.{StoredField}
+use Rattle.entries.specs.declared.node.PlanId.{PlanId}
+use Rattle.entries.specs.declared.node.StoredField.{StoredField}
 use Rattle.terms.proofs.Bounds.{name-short}
 use Rattle.lexicon.proofs.Frames.{every_append}
 use Rattle.names.specs.declared.parts.Span.{Span}

@@ -10,8 +10,8 @@ use Rattle.plan.specs.Model.{expr_in, exprs_in, plan_in, plans_in}
 use Rattle.plan.specs.Calls.{below, all_below, parts, union_of}
 use Rattle.plan.specs.declared.code.JoinKind.{JoinKind}
 use Rattle.terms.specs.Views.{numbers_of}
-use Rattle.terms.specs.declared.node.ExprId.{ExprId}
-use Rattle.terms.specs.declared.node.PlanId.{PlanId}
+use Rattle.entries.specs.declared.node.ExprId.{ExprId}
+use Rattle.entries.specs.declared.node.PlanId.{PlanId}
 use Rattle.tables.specs.Holding.{view_in, plan_count}
 use Rattle.tables.specs.Making.{new_key, key_numbers, input_numbers, present, bounded}
 use Rattle.tables.specs.declared.node.NewNode.{NewNode}

@@ -8,7 +8,7 @@ ghost use Rattle.plan.specs.Fields.{every, resolved};
 ghost use Rattle.plan.specs.Model.{expr_in, exprs_in, fits};
 ghost use Rattle.plan.specs.Plans.{plan_size_of};
 ghost use Rattle.plan.specs.Questions.{expressions_of, input_fields, limited, short_name, shown_expressions};
-ghost use Rattle.terms.specs.Spans.{stored_field, stored_in};
+ghost use Rattle.entries.specs.Spans.{stored_field, stored_in};
 ghost use Rattle.terms.specs.Views.{numbers_of};
 
 use crate::asked::Asked;
@@ -17,7 +17,7 @@ use naming::resolving::resolved;
 use table::table::Table;
 use tables::node::{NewNode, SortKey};
 use tables::tables::Tables;
-use terms::node::{ExprId, PlanId, StoredField};
+use entries::node::{ExprId, PlanId, StoredField};
 
 // Free functions: Tables is a type of another crate, so that they cannot be its methods. Clauses: `Asked` holds for the whole
 // node that its inputs and expressions are there; these take parts of it.

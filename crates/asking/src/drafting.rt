@@ -16,7 +16,7 @@ use plan::code::JoinKind;
 use table::table::Table;
 use tables::node::NewNode;
 use tables::tables::Tables;
-use terms::node::{PlanId, Span};
+use entries::node::{PlanId, Span};
 
 /// The fields that a join shows.
 // The kind and both sides come as the node has them. Methods of `JoinKind` for its sides would be two contracts more, and

@@ -14,7 +14,7 @@ use draft::word::{DraftField, Word};
 use table::table::Table;
 use tables::node::NewNode;
 use tables::tables::Tables;
-use terms::node::PlanId;
+use entries::node::PlanId;
 
 /// What fills the places of a draft that are not used.
 // A filler from the caller: a Default of fields would be a made-up field that all can see.

@@ -10,7 +10,7 @@ use plan::fault::{Fault, Question, ask};
 use table::table::Table;
 use tables::node::NewNode;
 use tables::tables::Tables;
-use terms::node::PlanId;
+use entries::node::PlanId;
 
 /// Asks the questions on references, fields, limits and space, and stores the node.
 // Clauses, not an Asked: that borrows the tables, and this call writes them.

@@ -14,7 +14,7 @@ use names::parts::count_names;
 use plan::code::JoinKind;
 use tables::node::NewNode;
 use tables::tables::Tables;
-use terms::node::PlanId;
+use entries::node::PlanId;
 
 /// How many fields a node has.
 fn width_of(tables: &Tables, p: PlanId) -> usize

@@ -2,7 +2,7 @@
 use book::declaration::Book;
 use std::test::Fail;
 use tables::node::Key;
-use terms::node::{ExprId, PlanId};
+use entries::node::{ExprId, PlanId};
 use trials::{NONE, first, has_counts, opened, refused_with, short_names, totals, wholes};
 
 #[test]

@@ -3,7 +3,7 @@ use book::declaration::Book;
 use book::opened::OpenBook;
 use plan::fault::Fault;
 use std::test::Fail;
-use terms::node::{ExprId, PlanId};
+use entries::node::{ExprId, PlanId};
 use trials::{first, has_counts, opened, refused_with, short_names};
 
 /// Function 1 so many times over an expression.

@@ -7,7 +7,7 @@ use Rattle.plan.specs.Model.{Model, plus, fits}
 use Rattle.plan.specs.Calls.{Call, asked, all_asked, new_exprs, new_plans, new_inputs, outlay, number_of_new, Answers}
 use Rattle.plan.specs.declared.fault.Fault.{Fault}
 use Rattle.plan.specs.declared.fault.Question.TheVariants.{Space as SpaceQuestion}
-use Rattle.terms.specs.declared.node.PlanId.{PlanId}
+use Rattle.entries.specs.declared.node.PlanId.{PlanId}
 use Rattle.asking.proofs.Questions.{AllYes, go_on}
 use Rattle.tables.specs.Holding.{view_in, model_of, plan_count}
 use Rattle.tables.specs.Making.{tree_for, outlay_for, inputs_for, node_questions, NodeMade}

@@ -12,7 +12,7 @@ use Rattle.plan.specs.Plans.Plan.{sort}
 use Rattle.plan.specs.Questions.{node_asked}
 use Rattle.plan.specs.Terms.{Expr}
 use Rattle.plan.specs.declared.fault.Question.TheVariants.{Present, Bounded, Placed}
-use Rattle.terms.specs.declared.node.PlanId.{PlanId}
+use Rattle.entries.specs.declared.node.PlanId.{PlanId}
 use Rattle.terms.proofs.Walks.{item_below}
 use Rattle.tables.specs.Holding.{view_in, trees_in, plan_count}
 use Rattle.building.specs.Keys.{key_pair, key_pairs, sort_key}

@@ -6,7 +6,7 @@ use Rattle.plan.specs.Fields.{every}
 use Rattle.plan.specs.Functions.{Functions}
 use Rattle.plan.specs.Model.{plan_in, plans_in}
 use Rattle.plan.specs.Plans.{Plan, fields_of}
-use Rattle.terms.specs.declared.node.PlanId.{PlanId}
+use Rattle.entries.specs.declared.node.PlanId.{PlanId}
 use Rattle.tables.specs.Making.{input_numbers}
 
 -- the first input is as wide as itself, so that it may be asked too

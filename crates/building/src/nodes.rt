@@ -15,7 +15,7 @@ use names::parts::{count_names, good_names};
 use plan::fault::{Fault, Question, ask};
 use tables::node::NewNode;
 use tables::tables::Tables;
-use terms::node::{ExprId, PlanId};
+use entries::node::{ExprId, PlanId};
 
 // Free functions: Tables is a type of another crate, so that they cannot be its methods, and a wrapper would only hold it.
 fn good_table(qualifier: &[u8], names: &[u8]) -> bool

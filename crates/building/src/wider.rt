@@ -19,7 +19,7 @@ use plan::fault::{Fault, Question, ask};
 use table::table::Table;
 use tables::node::{Key, NewNode, SortKey};
 use tables::tables::Tables;
-use terms::node::{ExprId, PlanId};
+use entries::node::{ExprId, PlanId};
 
 // Free functions, as in `nodes`. That all of a slice of numbers are there is a clause, as for one number.
 

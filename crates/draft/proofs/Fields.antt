@@ -5,11 +5,11 @@ use Rattle.std.proofs.lemmas.Bool.{and_parts, and_from}
 use Rattle.plan.specs.Terms.{Field}
 use Rattle.plan.specs.Plans.{qualified_by, without_qualifier, column_of}
 use Rattle.plan.specs.Fields.{every}
-use Rattle.terms.specs.Spans.{qualifier_in, stored_field, stored_in}
+use Rattle.entries.specs.Spans.{qualifier_in, stored_field, stored_in}
 use Rattle.names.specs.Spans.{word, span_in}
 use Rattle.terms.specs.Views.{View}
 use Rattle.names.specs.declared.parts.Span.{Span}
-use Rattle.terms.specs.declared.node.StoredField.{StoredField}
+use Rattle.entries.specs.declared.node.StoredField.{StoredField}
 use Rattle.draft.specs.Drafts.{draft_field, draft_in, as_stored, as_owned, as_bare, as_column, field_bytes, draft_bytes}
 use Rattle.draft.specs.declared.word.DraftField.{DraftField}
 use Rattle.draft.proofs.Words.{owner-kept}

@@ -7,7 +7,7 @@ use Rattle.plan.specs.Terms.{Expr}
 use Rattle.plan.specs.Model.{expr_in, exprs_in}
 use Rattle.plan.specs.Calls.{rendered_bytes}
 use Rattle.terms.specs.Views.{View, numbers_of}
-use Rattle.terms.specs.declared.node.ExprId.{ExprId}
+use Rattle.entries.specs.declared.node.ExprId.{ExprId}
 use Rattle.table.specs.Contents.{Pushed}
 use Rattle.draft.specs.Drafts.{field_bytes, FieldFor, FieldsFor}
 use Rattle.draft.specs.declared.word.DraftField.{DraftField}

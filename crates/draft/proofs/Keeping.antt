@@ -10,12 +10,12 @@ use Rattle.plan.specs.Rendering.{rendered}
 use Rattle.plan.specs.Fields.{every}
 use Rattle.plan.specs.Model.{expr_in}
 use Rattle.terms.specs.Build.{width_of}
-use Rattle.terms.specs.Spans.{stored_field, stored_in, qualifier_at, qualifier_in}
+use Rattle.entries.specs.Spans.{stored_field, stored_in, qualifier_at, qualifier_in}
 use Rattle.names.specs.Spans.{word, span_in}
 use Rattle.terms.specs.Views.{View, grown}
-use Rattle.terms.specs.declared.node.Entry.{Entry}
+use Rattle.entries.specs.declared.node.Entry.{Entry}
 use Rattle.names.specs.declared.parts.Span.{Span}
-use Rattle.terms.specs.declared.node.StoredField.{StoredField}
+use Rattle.entries.specs.declared.node.StoredField.{StoredField}
 use Rattle.terms.proofs.Facts.{grown-twice}
 use Rattle.lexicon.proofs.Frames.{every-at, every_append, span_grow}
 use Rattle.terms.proofs.Frames.{stored-grow}

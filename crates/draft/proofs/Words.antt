@@ -3,7 +3,7 @@ use Rattle.std.proofs.Common.{◌≡◌, ℕ, ◌<◌, ◌≤◌, List, refl, ar
 use Rattle.plan.specs.Model.{no_expr}
 use Rattle.terms.specs.Acceptance.{acceptable}
 use Rattle.terms.specs.Build.{width_of}
-use Rattle.terms.specs.Spans.{qualifier_at, qualifier_in}
+use Rattle.entries.specs.Spans.{qualifier_at, qualifier_in}
 use Rattle.terms.specs.Views.{View, view_of, tree_of, count}
 use Rattle.names.specs.declared.parts.Span.{Span}
 use Rattle.terms.specs.declared.terms.Terms.{Terms}

@@ -15,11 +15,11 @@ use Rattle.plan.specs.Fields.{every}
 use Rattle.plan.specs.Model.{expr_in}
 use Rattle.plan.specs.Calls.{rendered_bytes}
 use Rattle.terms.specs.Build.{width_of}
-use Rattle.terms.specs.Spans.{stored_field, stored_in}
+use Rattle.entries.specs.Spans.{stored_field, stored_in}
 use Rattle.names.specs.Spans.{word, span_in}
 use Rattle.terms.specs.Views.{View, grown}
 use Rattle.names.specs.declared.parts.Span.{Span}
-use Rattle.terms.specs.declared.node.StoredField.{StoredField}
+use Rattle.entries.specs.declared.node.StoredField.{StoredField}
 use Rattle.draft.specs.declared.storing.Lent.{Lent}
 use Rattle.draft.specs.declared.word.Word.{Word}
 use Rattle.draft.specs.declared.word.Word.TheVariants.{Stored, Owner, Given, Rendered}

@@ -9,7 +9,7 @@ ghost use Rattle.names.specs.Spans.{span_in, word as word_of};
 use crate::word::{DraftField, Relation, Word};
 use naming::rendering::render;
 use table::table::Table;
-use terms::node::Span;
+use entries::node::Span;
 use terms::terms::Terms;
 
 /// The part of a text that a span names.

@@ -8,7 +8,7 @@ ghost use Rattle.plan.specs.Questions.{short_name};
 ghost use Rattle.terms.specs.Views.{count, numbers_of, tree_of, view_of};
 
 use crate::word::{DraftField, Relation, Word};
-use terms::node::{ExprId, ExprNode, StoredField};
+use entries::node::{ExprId, ExprNode, StoredField};
 use terms::terms::Terms;
 
 /// A stored field as it is.

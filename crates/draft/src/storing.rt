@@ -11,7 +11,7 @@ ghost use Rattle.terms.specs.Views.{count, grown, tree_of, view_of};
 use crate::word::{DraftField, Relation, Word};
 use naming::rendering::render;
 use table::table::Table;
-use terms::node::{ExprId, Span, StoredField};
+use entries::node::{ExprId, Span, StoredField};
 use terms::terms::Terms;
 
 /// Where the lent owner's name and the lent names stand in the text.

@@ -1,5 +1,5 @@
 //! What a draft is made of.
-use terms::node::{ExprId, Span};
+use entries::node::{ExprId, Span};
 
 /// A word, by where it is.
 // No `==`: words are equal by their bytes, which `same_word` compares.

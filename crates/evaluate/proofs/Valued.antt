@@ -11,11 +11,11 @@ use Rattle.plan.specs.Values.Value.{null}
 use Rattle.table.specs.Contents.{part}
 use Rattle.table.proofs.Parts.{length_part}
 use Rattle.terms.specs.Build.{inside_node}
-use Rattle.terms.specs.Entries.{entry_number}
+use Rattle.entries.specs.Entries.{entry_number}
 use Rattle.terms.specs.Views.{tree_for, tree_of, view_of}
-use Rattle.terms.specs.declared.node.Entry.{Entry}
-use Rattle.terms.specs.declared.node.ExprNode.TheVariants.{Call}
-use Rattle.terms.specs.declared.node.Run.{Run}
+use Rattle.entries.specs.declared.node.Entry.{Entry}
+use Rattle.entries.specs.declared.node.ExprNode.TheVariants.{Call}
+use Rattle.entries.specs.declared.node.Run.{Run}
 use Rattle.terms.specs.declared.terms.Terms.{Terms}
 use Rattle.lexicon.proofs.Frames.{every-at}
 use Rattle.terms.proofs.Walks.{argument, call-of, counted, entry_trees, long, resolved-arguments}

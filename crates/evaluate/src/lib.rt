@@ -10,7 +10,7 @@ ghost use Rattle.std.specs.Prelude.{◌≡◌, true};
 use book::opened::OpenBook;
 use engine::Engine;
 use plan::fault::{Fault, Question, ask};
-use terms::node::{ExprId, PlanId};
+use entries::node::{ExprId, PlanId};
 use value::Value;
 use valuing::Row;
 

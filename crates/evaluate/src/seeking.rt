@@ -1,11 +1,11 @@
 //! The place of the field that a reference means.
 ghost use Rattle.rows.specs.Rows.{may_mean, seek, under};
-ghost use Rattle.terms.specs.Spans.{qualifier_at, qualifier_in, stored_field, stored_in};
+ghost use Rattle.entries.specs.Spans.{qualifier_at, qualifier_in, stored_field, stored_in};
 ghost use Rattle.terms.specs.Views.{view_of};
 ghost use Rattle.std.specs.Prelude.{◌≡◌, true, map};
 
 use crate::valuing::Row;
-use terms::node::{Span, StoredField};
+use entries::node::{Span, StoredField};
 
 impl Row<'_> {
     /// Whether the first qualifier is not said, or both are the same.

@@ -8,7 +8,7 @@ use engine::pair::Pair;
 use engine::records::{Entry, Records};
 use plan::fault::Fault;
 use std::test::Fail;
-use terms::node::{ExprId, PlanId};
+use entries::node::{ExprId, PlanId};
 use value::Value::{Null, Real, Record, Truth, Whole};
 use value::{Side, Text, Value};
 

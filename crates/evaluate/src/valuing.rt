@@ -5,7 +5,7 @@ ghost use Rattle.plan.specs.Faults.{Settled};
 ghost use Rattle.plan.specs.Fields.{every, resolved};
 ghost use Rattle.plan.specs.Terms.{size_of};
 ghost use Rattle.rows.specs.Rows.{literal_value, value_in};
-ghost use Rattle.terms.specs.Spans.{literal_at, literal_in, stored_field, stored_in};
+ghost use Rattle.entries.specs.Spans.{literal_at, literal_in, stored_field, stored_in};
 ghost use Rattle.terms.specs.Views.{count, tree_of, view_of};
 ghost use Rattle.value.specs.Meanings.{meaning_of};
 
@@ -13,8 +13,8 @@ use engine::Engine;
 use naming::resolving::resolved;
 use plan::fault::{Fault, Question, ask};
 use std::num::{f64_from_bits_with_nan, f64_to_bits_with_nan};
-use terms::listed::Listed;
-use terms::node::{ExprId, ExprNode, Literal, StoredField};
+use entries::listed::Listed;
+use entries::node::{ExprId, ExprNode, Literal, StoredField};
 use terms::terms::Terms;
 use value::{Side, Text, Value};
 

@@ -8,7 +8,7 @@ use Rattle.plan.specs.Calls.{Call, new_exprs, outlay}
 use Rattle.plan.specs.Model.{Space}
 use Rattle.expression.specs.Building.{bare, roomy, all_asked_of, Grew}
 use Rattle.terms.specs.Views.{View, grown}
-use Rattle.terms.specs.declared.node.Entry.{Entry}
+use Rattle.entries.specs.declared.node.Entry.{Entry}
 use Rattle.terms.proofs.Facts.{same_view, same_count}
 
 -- a text or a list that is written changes no tree

@@ -13,8 +13,8 @@ use Rattle.plan.specs.Calls.{Call, asked, new_exprs, outlay}
 use Rattle.plan.specs.declared.fault.Fault.{Fault}
 use Rattle.plan.specs.declared.fault.Question.TheVariants.{Space as SpaceQuestion}
 use Rattle.terms.specs.Views.{View, grown}
-use Rattle.terms.specs.declared.node.Entry.{Entry}
-use Rattle.terms.specs.declared.node.ExprId.{ExprId}
+use Rattle.entries.specs.declared.node.Entry.{Entry}
+use Rattle.entries.specs.declared.node.ExprId.{ExprId}
 
 abbrev pub bare : View → Model
 bare v = record { functions = v.functions; exprs = v.trees; plans = []; inputs = []; text = v.bytes; used = space 0 0 0 0 0 }

@@ -9,7 +9,7 @@ use Rattle.plan.specs.Model.{Space, space}
 use Rattle.plan.specs.declared.fault.Fault.{Fault}
 use Rattle.plan.specs.declared.fault.Question.TheVariants.{Space as SpaceQuestion}
 use Rattle.terms.specs.Views.{View, grown}
-use Rattle.terms.specs.declared.node.ExprId.{ExprId}
+use Rattle.entries.specs.declared.node.ExprId.{ExprId}
 use Rattle.expression.specs.Building.{roomy}
 
 abbrev pub one_node : Space

@@ -10,12 +10,12 @@ ghost use Rattle.plan.specs.declared.fault.Question.TheVariants.{Space as SpaceQ
 ghost use Rattle.terms.specs.Begun.{TermsBegin};
 ghost use Rattle.expression.specs.Building.{Answered, given_field, given_qualifier, qualifier_text, roomy};
 ghost use Rattle.plan.specs.Rendering.{dotted, rendered_literal};
-ghost use Rattle.terms.specs.Spans.{literal_at, plain_literal, stored_field, stored_in};
+ghost use Rattle.entries.specs.Spans.{literal_at, plain_literal, stored_field, stored_in};
 ghost use Rattle.terms.specs.Views.{count, grown, tree_of, view_of};
 
 use names::{good_name, is_prefixed, signed_len};
 use plan::fault::{Fault, Question, ask};
-use terms::node::{ExprId, ExprNode, Literal, StoredField};
+use entries::node::{ExprId, ExprNode, Literal, StoredField};
 use terms::terms::Terms;
 
 /// A name and a qualifier, as a caller gives them.

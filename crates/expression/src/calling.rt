@@ -16,7 +16,7 @@ ghost use Rattle.terms.specs.Views.{AllPresent, arguments_of, count, numbers_of,
 
 use crate::building::ask_room;
 use plan::fault::{Fault, Question, ask};
-use terms::node::{ExprId, ExprNode};
+use entries::node::{ExprId, ExprNode};
 use terms::terms::Terms;
 
 /// The arguments of a call: at most four, and each stands in the book.

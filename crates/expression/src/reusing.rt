@@ -7,12 +7,12 @@ ghost use Rattle.plan.specs.Questions.{small_tree};
 ghost use Rattle.plan.specs.Terms.Expr.{alias as alias_tree, reference as reference_tree};
 ghost use Rattle.terms.specs.Begun.{TermsBegin};
 ghost use Rattle.terms.specs.Build.{width_of};
-ghost use Rattle.terms.specs.Spans.{stored_field, stored_in};
+ghost use Rattle.entries.specs.Spans.{stored_field, stored_in};
 ghost use Rattle.terms.specs.Views.{count, tree_of, view_of};
 
 use crate::building::ask_room;
 use plan::fault::Fault;
-use terms::node::{ExprId, ExprNode, StoredField};
+use entries::node::{ExprId, ExprNode, StoredField};
 use terms::terms::Terms;
 
 /// How long the rendered name of a reference is.

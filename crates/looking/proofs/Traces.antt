@@ -14,7 +14,7 @@ use Rattle.plan.specs.Calls.{union_of}
 use Rattle.plan.specs.Swapping.{inputs_of, plan_list}
 use Rattle.plan.specs.Tracing.{holds_alias, nodes_in, nodes_in_all, first, Traced}
 use Rattle.terms.specs.Views.{View}
-use Rattle.terms.specs.declared.node.PlanId.{PlanId}
+use Rattle.entries.specs.declared.node.PlanId.{PlanId}
 use Rattle.tables.specs.Holding.{view_in, trees_in, fields_at, model_of, plan_count}
 use Rattle.tables.specs.Stored.{build_plan_node, node_inputs, run_numbers}
 use Rattle.looking.specs.Tracing.{found_plan, WalkedTo}

@@ -5,7 +5,7 @@ use Rattle.std.specs.Prelude.{◌≡◌, ℕ, ◌<◌, Some, None, Option}
 use Rattle.plan.specs.Names.{Name}
 use Rattle.plan.specs.Model.{Model, count_of, tree_at}
 use Rattle.plan.specs.Tracing.{holds_alias, nodes_in, first}
-use Rattle.terms.specs.declared.node.PlanId.{PlanId}
+use Rattle.entries.specs.declared.node.PlanId.{PlanId}
 
 abbrev pub found_plan : Option PlanId → Option ℕ
 found_plan None = None

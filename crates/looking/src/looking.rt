@@ -11,7 +11,7 @@ ghost use Rattle.plan.specs.declared.fault.Question.TheVariants.{Bounded, Presen
 ghost use Rattle.table.specs.Contents.{part};
 ghost use Rattle.terms.specs.Build.{numbers_in};
 ghost use Rattle.lexicon.specs.Declarations.{function_in};
-ghost use Rattle.terms.specs.Spans.{stored_field, stored_in};
+ghost use Rattle.entries.specs.Spans.{stored_field, stored_in};
 ghost use Rattle.names.specs.Spans.{span_in, word};
 ghost use Rattle.terms.specs.Views.{tree_for};
 
@@ -19,7 +19,7 @@ use lexicon::declaration::Declaration;
 use plan::fault::{Fault, Question, ask};
 use tables::node::{PlanRecord, Run};
 use tables::tables::Tables;
-use terms::node::{Entry, ExprId, ExprNode, PlanId, Span, StoredField};
+use entries::node::{Entry, ExprId, ExprNode, PlanId, Span, StoredField};
 
 // Free functions, here and in `tracing`: Tables is a type of another crate, so that they cannot be its methods.
 

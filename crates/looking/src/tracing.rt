@@ -12,8 +12,8 @@ use names::good_name;
 use plan::fault::{Fault, Question, ask};
 use tables::node::{PlanNode, Run};
 use tables::tables::Tables;
-use terms::listed::Listed;
-use terms::node::{ExprId, ExprNode, PlanId};
+use entries::listed::Listed;
+use entries::node::{ExprId, ExprNode, PlanId};
 
 /// Whether an expression is an alias of this name.
 fn is_aliased(tables: &Tables, e: ExprId, name: &[u8]) -> bool

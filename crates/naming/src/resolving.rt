@@ -3,11 +3,11 @@ ghost use Rattle.std.specs.Prelude.{◌≡◌, ◌+◌, ◌<◌, ◌≤◌, true
 ghost use Rattle.plan.specs.Fields.{any, every, named, resolved, resolves};
 ghost use Rattle.plan.specs.Terms.{same_field, same_qualifier};
 ghost use Rattle.names.specs.Spans.{span_in, word};
-ghost use Rattle.terms.specs.Spans.{qualifier_at, qualifier_in, stored_field, stored_in};
+ghost use Rattle.entries.specs.Spans.{qualifier_at, qualifier_in, stored_field, stored_in};
 ghost use Rattle.terms.specs.Views.{count, tree_of, view_of};
 
-use terms::listed::Listed;
-use terms::node::{ExprId, ExprNode, Span, StoredField};
+use entries::listed::Listed;
+use entries::node::{ExprId, ExprNode, Span, StoredField};
 use terms::terms::Terms;
 
 fn same_qualifier(terms: &Terms, a: Option<Span>, b: Option<Span>) -> bool

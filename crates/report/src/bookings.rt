@@ -3,7 +3,7 @@ use crate::EQUAL;
 use crate::telling::made;
 use book::opened::OpenBook;
 use tables::node::Key;
-use terms::node::PlanId;
+use entries::node::PlanId;
 
 /// The kind of a Left join.
 const LEFT: u8 = 1;

@@ -2,7 +2,7 @@
 use crate::telling::made;
 use crate::{EQUAL, GET_FIELD};
 use book::opened::OpenBook;
-use terms::node::{ExprId, PlanId};
+use entries::node::{ExprId, PlanId};
 
 /// The name of the helper column, with the prefix that is kept for such.
 pub const HELPER: &str = "__datafusion_extracted_100000000";

@@ -8,7 +8,7 @@ use book::opened::OpenBook;
 use replay::act::{Act, Answer};
 use replay::performing::replay;
 use std::io;
-use terms::node::PlanId;
+use entries::node::PlanId;
 
 /// What the calls of the list ask for, in their order.
 const ASKED: [&str; 3] = [

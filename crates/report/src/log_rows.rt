@@ -10,7 +10,7 @@ use engine::records::{Entry, Records};
 use evaluate::fits;
 use reporting::{Outcome, Report, Valuing, is_kept, report_of};
 use std::io;
-use terms::node::{ExprId, PlanId};
+use entries::node::{ExprId, PlanId};
 use value::{Side, Text, Value, shown};
 
 /// The text that comes with the log: the kinds of events.

@@ -11,7 +11,7 @@ use listing::perform_list;
 use log_rows::{make_own, show_rows};
 use std::io;
 use telling::{declared, made, told};
-use terms::node::{ExprId, PlanId};
+use entries::node::{ExprId, PlanId};
 use versions::{compared, traced, version};
 
 mod bookings;

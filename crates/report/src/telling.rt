@@ -4,7 +4,7 @@ ghost use Rattle.std.specs.Prelude.{◌≡◌, Ok, IfOk};
 use anyhow::anyhow;
 use plan::fault::Fault;
 use std::io;
-use terms::node::{ExprId, PlanId};
+use entries::node::{ExprId, PlanId};
 
 /// What a call makes, and a book knows by a number.
 pub trait Numbered: Copy {

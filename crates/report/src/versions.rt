@@ -3,7 +3,7 @@
 use crate::telling::{made, refused, told};
 use book::opened::OpenBook;
 use std::io;
-use terms::node::PlanId;
+use entries::node::PlanId;
 
 /// A version of the report: its projection is swapped for a version that a swap of the rows for themselves made. A swap
 /// for the rows, which have another origin, is refused.

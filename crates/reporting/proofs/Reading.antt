@@ -7,9 +7,9 @@ use Rattle.plan.specs.Model.{count_of, no_plan, plans_in}
 use Rattle.plan.specs.Plans.{Plan}
 use Rattle.plan.specs.Terms.{Field}
 use Rattle.terms.specs.Views.{View}
-use Rattle.terms.specs.declared.node.ExprId.{ExprId}
-use Rattle.terms.specs.declared.node.PlanId.{PlanId}
-use Rattle.terms.specs.declared.node.Run.{Run}
+use Rattle.entries.specs.declared.node.ExprId.{ExprId}
+use Rattle.entries.specs.declared.node.PlanId.{PlanId}
+use Rattle.entries.specs.declared.node.Run.{Run}
 use Rattle.tables.specs.Holding.{tree_in, trees_in}
 use Rattle.tables.specs.Stored.{build_plan_node, run_numbers}
 use Rattle.tables.specs.declared.node.PlanNode.{PlanNode}

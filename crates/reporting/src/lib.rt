@@ -19,7 +19,7 @@ use engine::Engine;
 use evaluate::evaluate;
 use plan::fault::Fault;
 use tables::node::{PlanNode, Run};
-use terms::node::{ExprId, PlanId};
+use entries::node::{ExprId, PlanId};
 use value::Value;
 
 /// The report as the book has it: a filter over a projection.

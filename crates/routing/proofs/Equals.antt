@@ -4,11 +4,11 @@ use Rattle.std.proofs.lemmas.Bool.{eq-eqb, ne_eqb}
 use Rattle.table.specs.Contents.{part}
 use Rattle.plan.specs.Model.{no_expr}
 use Rattle.terms.specs.Build.{inside_node}
-use Rattle.terms.specs.Entries.{entry_number}
+use Rattle.entries.specs.Entries.{entry_number}
 use Rattle.terms.specs.Views.{tree_for, tree_of, view_of}
-use Rattle.terms.specs.declared.node.Entry.{Entry}
-use Rattle.terms.specs.declared.node.ExprNode.TheVariants.{Call}
-use Rattle.terms.specs.declared.node.Run.{Run}
+use Rattle.entries.specs.declared.node.Entry.{Entry}
+use Rattle.entries.specs.declared.node.ExprNode.TheVariants.{Call}
+use Rattle.entries.specs.declared.node.Run.{Run}
 use Rattle.terms.specs.declared.terms.Terms.{Terms}
 use Rattle.terms.proofs.Walks.{argument, call-of, counted, entry_trees, long, lower}
 use Rattle.std.proofs.lemmas.List.{at_drop_more, at_drop_all}

@@ -5,10 +5,10 @@ use Rattle.plan.specs.Functions.{Functions, is_marked, placement_of}
 use Rattle.plan.specs.Terms.{Expr, Field, arguments}
 use Rattle.plan.specs.Terms.Expr.{alias, call}
 use Rattle.terms.specs.Views.{tree_for, tree_of}
-use Rattle.terms.specs.declared.node.ExprNode.{ExprNode}
-use Rattle.terms.specs.declared.node.ExprNode.TheVariants.{Constant, Reference}
-use Rattle.terms.specs.declared.node.Literal.{Literal}
-use Rattle.terms.specs.declared.node.StoredField.{StoredField}
+use Rattle.entries.specs.declared.node.ExprNode.{ExprNode}
+use Rattle.entries.specs.declared.node.ExprNode.TheVariants.{Constant, Reference}
+use Rattle.entries.specs.declared.node.Literal.{Literal}
+use Rattle.entries.specs.declared.node.StoredField.{StoredField}
 use Rattle.terms.specs.declared.terms.Terms.{Terms}
 use Rattle.rewriting.specs.Routing.{has_extractable_expr, hold_marked, holds_marked}
 

@@ -1,11 +1,11 @@
 //! Whether an expression is null wherever all its columns are.
 ghost use Rattle.plan.specs.Functions.{function_at, is_null, null_keeping, strict_in};
 ghost use Rattle.std.specs.Prelude.{◌≡◌, ℕ, ◌<◌, List};
-ghost use Rattle.terms.specs.Spans.{literal_at};
+ghost use Rattle.entries.specs.Spans.{literal_at};
 ghost use Rattle.terms.specs.Views.{count, tree_of, view_of};
 
-use terms::listed::Listed;
-use terms::node::{ExprId, ExprNode, Literal};
+use entries::listed::Listed;
+use entries::node::{ExprId, ExprNode, Literal};
 use terms::terms::Terms;
 
 fn is_null(literal: Literal) -> bool

@@ -5,8 +5,8 @@ ghost use Rattle.std.specs.Prelude.{◌≡◌, ◌<◌};
 ghost use Rattle.terms.specs.Views.{AllPresent, count, numbers_of, tree_of, view_of};
 
 use crate::placement::placement;
-use terms::listed::Listed;
-use terms::node::{ExprId, ExprNode};
+use entries::listed::Listed;
+use entries::node::{ExprId, ExprNode};
 use terms::terms::Terms;
 
 /// Whether an expression is Marked, or a part of it.

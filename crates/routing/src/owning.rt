@@ -5,12 +5,12 @@ ghost use Rattle.plan.specs.Terms.{same_field};
 ghost use Rattle.rewriting.specs.Routing.{find_owning_input, find_sole_input, has_all_column_refs, owner_of, schema_columns};
 ghost use Rattle.routing.specs.Sides.{column_of, side_of};
 ghost use Rattle.std.specs.Prelude.{◌≡◌, ◌<◌, true, List, ℕ, map, option_map};
-ghost use Rattle.terms.specs.Spans.{stored_field, stored_in};
+ghost use Rattle.entries.specs.Spans.{stored_field, stored_in};
 ghost use Rattle.terms.specs.Views.{count, tree_of, view_of};
 
 use naming::resolving::same_field;
-use terms::listed::Listed;
-use terms::node::{ExprId, ExprNode, StoredField};
+use entries::listed::Listed;
+use entries::node::{ExprId, ExprNode, StoredField};
 use terms::terms::Terms;
 
 /// The first or the second input of a node.

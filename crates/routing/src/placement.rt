@@ -6,8 +6,8 @@ ghost use Rattle.terms.specs.Views.{count, tree_of, view_of};
 
 use plan::code::Rule;
 use table::table::Table;
-use terms::listed::Listed;
-use terms::node::{ExprId, ExprNode};
+use entries::listed::Listed;
+use entries::node::{ExprId, ExprNode};
 use terms::terms::Terms;
 
 /// Where the optimizer would have an expression.

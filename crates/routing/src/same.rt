@@ -1,13 +1,13 @@
 //! Whether two expressions are equal: their trees are, reals by their bits.
 ghost use Rattle.plan.specs.Terms.{same_expr, same_literal};
 ghost use Rattle.std.specs.Prelude.{◌≡◌, ◌<◌, true};
-ghost use Rattle.terms.specs.Spans.{literal_at, literal_in};
+ghost use Rattle.entries.specs.Spans.{literal_at, literal_in};
 ghost use Rattle.terms.specs.Views.{count, tree_of, view_of};
 
 use naming::resolving::same_field;
 use std::num::f64_to_bits_with_nan;
-use terms::listed::Listed;
-use terms::node::{ExprId, ExprNode, Literal};
+use entries::listed::Listed;
+use entries::node::{ExprId, ExprNode, Literal};
 use terms::terms::Terms;
 
 /// Whether two literals are equal: reals by their bits, all not-a-numbers alike.

@@ -9,7 +9,7 @@ use Rattle.plan.specs.Model.{Model, fits, plus, count_of}
 use Rattle.plan.specs.Swapping.{own_space}
 use Rattle.plan.specs.declared.fault.Fault.{Fault}
 use Rattle.plan.specs.declared.fault.Question.TheVariants.{Space as SpaceQuestion}
-use Rattle.terms.specs.declared.node.PlanId.{PlanId}
+use Rattle.entries.specs.declared.node.PlanId.{PlanId}
 
 abbrev pub tree_asked : Model → Plan → List Asked
 tree_asked m p = node_asked m.functions p ++ (SpaceQuestion, fits m.used (own_space m.functions p)) ∷ []

@@ -2,8 +2,8 @@
 ghost use Rattle.std.specs.Prelude.{◌≡◌, ◌≤◌, map, length};
 
 use table::table::Table;
-use terms::listed::Listed;
-use terms::node::{Entry, PlanId};
+use entries::listed::Listed;
+use entries::node::{Entry, PlanId};
 
 /// The items of a list.
 pub fn copied<T: Listed, const N: usize>(entries: &[Entry]) -> Table<T, N>

@@ -17,7 +17,7 @@ use plan::fault::{Fault, Question};
 use table::table::Table;
 use tables::node::{NewNode, PlanNode, Run, SortKey};
 use tables::tables::Tables;
-use terms::node::{ExprId, PlanId, Span};
+use entries::node::{ExprId, PlanId, Span};
 
 // One function for each kind that has lists or a name: they copy different lists and promise different trees.
 

@@ -9,13 +9,13 @@ use Rattle.plan.specs.Fields.{every}
 use Rattle.plan.specs.Questions.{limited, expressions_of, shown_expressions, small_tree, short_name}
 use Rattle.plan.specs.Model.{Space, fits}
 use Rattle.plan.specs.Calls.{rendered_bytes}
-use Rattle.terms.specs.Spans.{stored_field, stored_in}
+use Rattle.entries.specs.Spans.{stored_field, stored_in}
 use Rattle.names.specs.Spans.{word}
 use Rattle.terms.specs.Views.{View, grown}
-use Rattle.terms.specs.declared.node.Entry.{Entry}
-use Rattle.terms.specs.declared.node.Entry.TheVariants.{Expression, Input}
-use Rattle.terms.specs.declared.node.PlanId.{PlanId}
-use Rattle.terms.specs.declared.node.StoredField.{StoredField}
+use Rattle.entries.specs.declared.node.Entry.{Entry}
+use Rattle.entries.specs.declared.node.Entry.TheVariants.{Expression, Input}
+use Rattle.entries.specs.declared.node.PlanId.{PlanId}
+use Rattle.entries.specs.declared.node.StoredField.{StoredField}
 use Rattle.draft.specs.Drafts.{draft_field, draft_in, draft_bytes, StoredAll}
 use Rattle.draft.specs.declared.word.DraftField.{DraftField}
 use Rattle.draft.proofs.Keeping.{drafts-grown}

@@ -11,12 +11,12 @@ use Rattle.plan.specs.declared.fault.Fault.{Fault}
 use Rattle.plan.specs.declared.fault.Question.TheVariants.{Space as SpaceQuestion}
 use Rattle.expression.specs.Building.{bare, roomy, all_asked_of, Grew, Answered}
 use Rattle.terms.specs.Views.{View, grown}
-use Rattle.terms.specs.declared.node.Entry.{Entry}
-use Rattle.terms.specs.declared.node.ExprId.{ExprId}
-use Rattle.terms.specs.declared.node.StoredField.{StoredField}
+use Rattle.entries.specs.declared.node.Entry.{Entry}
+use Rattle.entries.specs.declared.node.ExprId.{ExprId}
+use Rattle.entries.specs.declared.node.StoredField.{StoredField}
 use Rattle.plan.specs.Fields.{every}
 use Rattle.plan.specs.Plans.{plan_size_of}
-use Rattle.terms.specs.Spans.{stored_in}
+use Rattle.entries.specs.Spans.{stored_in}
 use Rattle.tables.specs.Stored.{plan_nodes, plan_trees, inputs_from, sound_plans, fielded}
 use Rattle.tables.specs.Holding.{view_in, nodes_of, model_from, model_of}
 use Rattle.tables.specs.Answering.{answered_expr}

@@ -8,16 +8,16 @@ use Rattle.table.proofs.Parts.{length_part}
 use Rattle.plan.specs.Model.{no_node, inputs_at, plans_in, tree_at}
 use Rattle.plan.specs.Plans.{further_inputs, plan_size_of, plan_sizes_of}
 use Rattle.plan.specs.Calls.{below, all_below}
-use Rattle.terms.specs.Entries.{entry_number}
+use Rattle.entries.specs.Entries.{entry_number}
 use Rattle.terms.specs.Views.{View}
-use Rattle.terms.specs.declared.node.Entry.{Entry}
-use Rattle.terms.specs.declared.node.PlanId.{PlanId}
+use Rattle.entries.specs.declared.node.Entry.{Entry}
+use Rattle.entries.specs.declared.node.PlanId.{PlanId}
 use Rattle.lexicon.proofs.Frames.{every-at}
 use Rattle.tables.specs.Holding.{view_in, nodes_of, trees_in, tree_in, fields_at, model_of, plan_count}
 use Rattle.tables.specs.Making.{input_numbers}
 use Rattle.tables.specs.Reading.{ReadsAs}
 use Rattle.tables.specs.Stored.{build_plan_node, node_inputs, inside_node, accepted_node, run_in, run_numbers, list_in}
-use Rattle.terms.specs.declared.node.Run.{Run}
+use Rattle.entries.specs.declared.node.Run.{Run}
 use Rattle.tables.specs.declared.node.PlanNode.{PlanNode}
 use Rattle.tables.specs.declared.node.PlanNode.TheVariants.{Table, Projection, Filter, Sort, Limit, Aggregate, Join, SubqueryAlias, Union}
 use Rattle.tables.specs.declared.node.PlanRecord.{PlanRecord}

@@ -8,8 +8,8 @@ use Rattle.plan.specs.Calls.{all_below, rendered_bytes}
 use Rattle.names.specs.Spans.{word}
 use Rattle.names.specs.declared.parts.Span.{Span}
 use Rattle.terms.specs.Views.{count, view_of}
-use Rattle.terms.specs.declared.node.Entry.{Entry}
-use Rattle.terms.specs.declared.node.Run.{Run}
+use Rattle.entries.specs.declared.node.Entry.{Entry}
+use Rattle.entries.specs.declared.node.Run.{Run}
 use Rattle.terms.specs.declared.terms.Terms.{Terms}
 use Rattle.draft.specs.Drafts.{FieldsFor}
 use Rattle.draft.specs.declared.word.DraftField.{DraftField}

@@ -8,9 +8,9 @@ use Rattle.table.proofs.Folds.{built-keep, ok-set}
 use Rattle.plan.specs.Plans.{plan_size_of}
 use Rattle.plan.specs.Model.{Node, space, no_node}
 use Rattle.terms.specs.Views.{View}
-use Rattle.terms.specs.declared.node.Entry.{Entry}
-use Rattle.terms.specs.declared.node.PlanId.{PlanId}
-use Rattle.terms.specs.declared.node.StoredField.{StoredField}
+use Rattle.entries.specs.declared.node.Entry.{Entry}
+use Rattle.entries.specs.declared.node.PlanId.{PlanId}
+use Rattle.entries.specs.declared.node.StoredField.{StoredField}
 use Rattle.tables.specs.Holding.{model_from}
 use Rattle.tables.specs.Origins.{OriginGiven}
 use Rattle.tables.specs.Stored.{fields_in, run_in, build_plan_node, build_plan, plan_nodes, plan_trees, node_trees, node_inputs, inputs_from, inside_node, accepted_node, inside_plan, fielded_at}

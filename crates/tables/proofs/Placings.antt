@@ -8,13 +8,13 @@ use Rattle.plan.specs.Plans.{Plan, fields_of, column_of}
 use Rattle.plan.specs.Plans.Plan.{table, subquery_alias}
 use Rattle.plan.specs.Model.{exprs_in, plan_in}
 use Rattle.plan.specs.Calls.{all_below, parts}
-use Rattle.terms.specs.Entries.{entry_number}
+use Rattle.entries.specs.Entries.{entry_number}
 use Rattle.names.specs.Spans.{word, span_in}
 use Rattle.terms.specs.Views.{View, grown, numbers_of}
-use Rattle.terms.specs.declared.node.Entry.{Entry}
-use Rattle.terms.specs.declared.node.Entry.TheVariants.{Expression, Input}
-use Rattle.terms.specs.declared.node.ExprId.{ExprId}
-use Rattle.terms.specs.declared.node.PlanId.{PlanId}
+use Rattle.entries.specs.declared.node.Entry.{Entry}
+use Rattle.entries.specs.declared.node.Entry.TheVariants.{Expression, Input}
+use Rattle.entries.specs.declared.node.ExprId.{ExprId}
+use Rattle.entries.specs.declared.node.PlanId.{PlanId}
 use Rattle.names.specs.declared.parts.Span.{Span}
 use Rattle.terms.proofs.Calling.{entries-numbers}
 use Rattle.lexicon.proofs.Frames.{span_grow}
@@ -24,7 +24,7 @@ use Rattle.tables.specs.Making.{new_key, key_numbers, input_numbers, tree_over, 
 use Rattle.tables.specs.Keys.{key_entry}
 use Rattle.tables.specs.Placing.{own_text, own_entries, lent_owner, lent_given, namelessly, PlacedAs}
 use Rattle.tables.specs.Listing.{ListedAs}
-use Rattle.terms.specs.declared.node.Run.{Run}
+use Rattle.entries.specs.declared.node.Run.{Run}
 use Rattle.tables.specs.declared.node.SortKey.{SortKey}
 use Rattle.tables.specs.declared.node.PlanNode.{PlanNode}
 use Rattle.tables.specs.declared.node.PlanNode.TheVariants.{Table, SubqueryAlias}

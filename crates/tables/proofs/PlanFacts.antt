@@ -13,11 +13,11 @@ use Rattle.plan.specs.Plans.Plan.{projection, filter, sort, limit, aggregate, jo
 use Rattle.plan.specs.Fields.{every}
 use Rattle.plan.specs.Model.{Node, expr_in, plan_in, plans_in, no_plan}
 use Rattle.plan.specs.Calls.{below, all_below, union_of}
-use Rattle.terms.specs.Spans.{stored_in}
+use Rattle.entries.specs.Spans.{stored_in}
 use Rattle.names.specs.Spans.{word}
 use Rattle.terms.specs.Views.{View, grown}
-use Rattle.terms.specs.declared.node.Entry.{Entry}
-use Rattle.terms.specs.declared.node.StoredField.{StoredField}
+use Rattle.entries.specs.declared.node.Entry.{Entry}
+use Rattle.entries.specs.declared.node.StoredField.{StoredField}
 use Rattle.lexicon.proofs.Frames.{every_append}
 use Rattle.terms.proofs.Frames.{stored-grow}
 use Rattle.tables.specs.Stored.{fields_in, run_in, run_numbers, run_exprs, run_keys, build_plan_node, build_plan, plan_nodes, plan_trees, node_trees, list_in, inside_node, inside_plan, accepted_node, sound_plans, same_fields, fielded_at, fielded}

@@ -13,16 +13,16 @@ use Rattle.plan.specs.Fields.{every}
 use Rattle.plan.specs.Model.{Node, expr_in, exprs_in, plan_in, plans_in, no_expr}
 use Rattle.plan.specs.Names.{good_name}
 use Rattle.plan.specs.Calls.{below, all_below, union_of}
-use Rattle.terms.specs.Entries.{entry_number}
-use Rattle.terms.specs.Spans.{stored_field, stored_in}
+use Rattle.entries.specs.Entries.{entry_number}
+use Rattle.entries.specs.Spans.{stored_field, stored_in}
 use Rattle.names.specs.Spans.{span_in}
 use Rattle.terms.specs.Views.{View, grown}
-use Rattle.terms.specs.declared.node.Entry.{Entry}
-use Rattle.terms.specs.declared.node.StoredField.{StoredField}
+use Rattle.entries.specs.declared.node.Entry.{Entry}
+use Rattle.entries.specs.declared.node.StoredField.{StoredField}
 use Rattle.lexicon.proofs.Frames.{span_grow}
 use Rattle.terms.proofs.Frames.{stored-grow}
 use Rattle.tables.specs.Stored.{fields_in, run_in, key_at, run_numbers, run_exprs, run_keys, build_plan_node, build_plan, plan_nodes, node_trees, list_in, inside_node, inside_plan, sound_plans, node_inputs, inputs_from, accepted_node}
-use Rattle.terms.specs.declared.node.Run.{Run}
+use Rattle.entries.specs.declared.node.Run.{Run}
 use Rattle.tables.specs.declared.node.PlanNode.{PlanNode}
 use Rattle.tables.specs.declared.node.PlanNode.TheVariants.{Table, Projection, Filter, Sort, Limit, Aggregate, Join, SubqueryAlias, Union}
 use Rattle.tables.specs.declared.node.PlanRecord.{PlanRecord}

@@ -8,7 +8,7 @@ use Rattle.expression.specs.Building.{roomy}
 use Rattle.expression.specs.Reusing
 use Rattle.expression.specs.Reusing.{one_node}
 use Rattle.terms.specs.Views.{View}
-use Rattle.terms.specs.declared.node.ExprId.{ExprId}
+use Rattle.entries.specs.declared.node.ExprId.{ExprId}
 use Rattle.tables.specs.Holding.{view_in, nodes_of, model_from, model_of}
 use Rattle.tables.specs.Reusing.{Reused}
 use Rattle.tables.specs.declared.tables.Tables.{Tables}

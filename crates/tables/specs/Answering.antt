@@ -4,8 +4,8 @@ use Rattle.std.specs.Prelude.{Ok, Err, Result}
 use Rattle.plan.specs.Calls.{Answer}
 use Rattle.plan.specs.Calls.Answer.{made, refused}
 use Rattle.plan.specs.declared.fault.Fault.{Fault}
-use Rattle.terms.specs.declared.node.ExprId.{ExprId}
-use Rattle.terms.specs.declared.node.PlanId.{PlanId}
+use Rattle.entries.specs.declared.node.ExprId.{ExprId}
+use Rattle.entries.specs.declared.node.PlanId.{PlanId}
 
 abbrev pub answered_expr : Result ExprId Fault → Answer
 answered_expr (Ok e) = made e.0

@@ -8,7 +8,7 @@ use Rattle.plan.specs.Plans.{Plan, fields_of}
 use Rattle.plan.specs.Model.{Model, Node, space, plan_in}
 use Rattle.terms.specs.Views.{View, view_of}
 use Rattle.tables.specs.Stored.{plan_nodes, plan_trees, inputs_from}
-use Rattle.terms.specs.declared.node.StoredField.{StoredField}
+use Rattle.entries.specs.declared.node.StoredField.{StoredField}
 use Rattle.tables.specs.declared.node.PlanRecord.{PlanRecord}
 use Rattle.tables.specs.declared.tables.Tables.{Tables}
 

@@ -1,9 +1,9 @@
 -- Sort keys as entries of a list.
 --     key_entry k      the entry that a key is stored as
 --     key_of e      the key that an entry is read as
-use Rattle.terms.specs.Entries.{expr_of}
-use Rattle.terms.specs.declared.node.Entry.{Entry}
-use Rattle.terms.specs.declared.node.Entry.TheVariants.{Key}
+use Rattle.entries.specs.Entries.{expr_of}
+use Rattle.entries.specs.declared.node.Entry.{Entry}
+use Rattle.entries.specs.declared.node.Entry.TheVariants.{Key}
 use Rattle.tables.specs.Stored.{entry_direction}
 use Rattle.tables.specs.declared.node.SortKey.{SortKey}
 

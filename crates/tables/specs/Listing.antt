@@ -3,9 +3,9 @@
 use Rattle.std.specs.Prelude.{◌≡◌, true, List, [], length}
 use Rattle.table.specs.Contents.{part}
 use Rattle.terms.specs.Views.{View, grown}
-use Rattle.terms.specs.declared.node.Entry.{Entry}
+use Rattle.entries.specs.declared.node.Entry.{Entry}
 use Rattle.tables.specs.Stored.{run_in}
-use Rattle.terms.specs.declared.node.Run.{Run}
+use Rattle.entries.specs.declared.node.Run.{Run}
 
 pub record ListedAs (v : View) (es : List Entry) (r : Run) (v' : View) : Type 0 where
   pub view : v' ≡ grown v [] [] es

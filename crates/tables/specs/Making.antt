@@ -18,7 +18,7 @@ use Rattle.plan.specs.Calls.{below, all_below, between, parts, union_of, node_ou
 use Rattle.plan.specs.declared.fault.Fault.{Fault}
 use Rattle.plan.specs.declared.fault.Question.TheVariants.{Space as SpaceQuestion}
 use Rattle.terms.specs.Views.{View, numbers_of}
-use Rattle.terms.specs.declared.node.PlanId.{PlanId}
+use Rattle.entries.specs.declared.node.PlanId.{PlanId}
 use Rattle.tables.specs.Holding.{view_in, trees_in, model_of, plan_count}
 use Rattle.tables.specs.declared.node.NewNode.{NewNode}
 use Rattle.tables.specs.declared.node.NewNode.TheVariants.{Table, Projection, Filter, Sort, Limit, Aggregate, Join, SubqueryAlias, Union}

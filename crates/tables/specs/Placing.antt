@@ -8,8 +8,8 @@ use Rattle.plan.specs.Plans.{Plan, fields_of}
 use Rattle.names.specs.Spans.{word}
 use Rattle.draft.specs.Drafts.{LentIn}
 use Rattle.terms.specs.Views.{View, grown}
-use Rattle.terms.specs.declared.node.Entry.{Entry}
-use Rattle.terms.specs.declared.node.Entry.TheVariants.{Expression, Input}
+use Rattle.entries.specs.declared.node.Entry.{Entry}
+use Rattle.entries.specs.declared.node.Entry.TheVariants.{Expression, Input}
 use Rattle.tables.specs.Keys.{key_entry}
 use Rattle.tables.specs.Stored.{build_plan_node, node_inputs, inside_node, accepted_node}
 use Rattle.tables.specs.Making.{tree_over, inputs_for, well_named}

@@ -8,7 +8,7 @@ use Rattle.plan.specs.Model.{Model, fits, plus}
 use Rattle.plan.specs.declared.fault.Fault.{Fault}
 use Rattle.plan.specs.declared.fault.Question.TheVariants.{Space as SpaceQuestion}
 use Rattle.expression.specs.Reusing.{one_node}
-use Rattle.terms.specs.declared.node.ExprId.{ExprId}
+use Rattle.entries.specs.declared.node.ExprId.{ExprId}
 
 pub record Added (m : Model) (t : Expr) (r : ℕ) (m' : Model) : Type 0 where
   pub room : fits m.used one_node ≡ true

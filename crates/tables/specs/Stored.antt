@@ -17,14 +17,14 @@ use Rattle.plan.specs.Calls.{all_below, between, union_of}
 use Rattle.plan.specs.declared.code.Direction.{Direction}
 use Rattle.plan.specs.declared.code.Direction.TheVariants.{AscendingNullsFirst}
 use Rattle.terms.specs.Build.{numbers_in}
-use Rattle.terms.specs.Entries.{entry_number}
-use Rattle.terms.specs.Spans.{stored_field}
+use Rattle.entries.specs.Entries.{entry_number}
+use Rattle.entries.specs.Spans.{stored_field}
 use Rattle.names.specs.Spans.{word, span_in}
 use Rattle.terms.specs.Views.{View}
-use Rattle.terms.specs.declared.node.Entry.{Entry}
-use Rattle.terms.specs.declared.node.Entry.TheVariants.{Expression, Key, Input}
-use Rattle.terms.specs.declared.node.StoredField.{StoredField}
-use Rattle.terms.specs.declared.node.Run.{Run}
+use Rattle.entries.specs.declared.node.Entry.{Entry}
+use Rattle.entries.specs.declared.node.Entry.TheVariants.{Expression, Key, Input}
+use Rattle.entries.specs.declared.node.StoredField.{StoredField}
+use Rattle.entries.specs.declared.node.Run.{Run}
 use Rattle.tables.specs.declared.node.PlanNode.{PlanNode}
 use Rattle.tables.specs.declared.node.PlanNode.TheVariants.{Table, Projection, Filter, Sort, Limit, Aggregate, Join, SubqueryAlias, Union}
 use Rattle.tables.specs.declared.node.PlanRecord.{PlanRecord}

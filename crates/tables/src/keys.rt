@@ -4,8 +4,8 @@ ghost use Rattle.tables.specs.Keys.{key_entry, key_of};
 
 use crate::node::SortKey;
 use plan::code::Direction;
-use terms::listed::Listed;
-use terms::node::{Entry, ExprId};
+use entries::listed::Listed;
+use entries::node::{Entry, ExprId};
 
 impl Listed for SortKey {
     ghost entry = { key_entry };

@@ -8,8 +8,8 @@ ghost use Rattle.terms.specs.Views.{view_of};
 
 use crate::node::{NewNode, PlanNode, Run};
 use draft::storing::Lent;
-use terms::listed::Listed;
-use terms::node::{PlanId, Span};
+use entries::listed::Listed;
+use entries::node::{PlanId, Span};
 use terms::terms::Terms;
 
 /// A node whose names and lists are in the tables, with the names that are lent to its fields.

@@ -2,13 +2,13 @@
 ghost use Rattle.tables.specs.Stored.{fielded, plan_trees, sound_plans};
 ghost use Rattle.plan.specs.Fields.{every};
 ghost use Rattle.plan.specs.Plans.{plan_size_of};
-ghost use Rattle.terms.specs.Spans.{stored_in};
+ghost use Rattle.entries.specs.Spans.{stored_in};
 ghost use Rattle.terms.specs.Views.{view_of};
 ghost use Rattle.std.specs.Prelude.{◌≡◌, ◌≤◌, true, map, length};
 
 use crate::node::PlanRecord;
 use table::table::Table;
-use terms::node::StoredField;
+use entries::node::StoredField;
 use terms::terms::Terms;
 
 mod adding;

@@ -8,7 +8,7 @@ use Rattle.plan.specs.Terms.{size_of, sizes_of}
 use Rattle.terms.specs.Acceptance.{acceptable}
 use Rattle.terms.specs.Build.{width_of}
 use Rattle.terms.specs.Views.{arguments_of, count, view_of, tree_of, numbers_of}
-use Rattle.terms.specs.declared.node.ExprId.{ExprId}
+use Rattle.entries.specs.declared.node.ExprId.{ExprId}
 use Rattle.terms.specs.declared.terms.Terms.{Terms}
 use Rattle.terms.proofs.Bounds.{small, width-le}
 use Rattle.lexicon.proofs.Frames.{every-at}

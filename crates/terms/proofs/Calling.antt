@@ -13,11 +13,11 @@ use Rattle.plan.specs.Model.{exprs_in, no_expr}
 use Rattle.plan.specs.Calls.{below, all_below, arity_is}
 use Rattle.terms.specs.Acceptance.{acceptable, all_acceptable}
 use Rattle.terms.specs.Build.{numbers_in}
-use Rattle.terms.specs.Entries.{entry_number}
+use Rattle.entries.specs.Entries.{entry_number}
 use Rattle.terms.specs.Views.{numbers_of}
-use Rattle.terms.specs.declared.node.Entry.{Entry}
-use Rattle.terms.specs.declared.node.Entry.TheVariants.{Expression}
-use Rattle.terms.specs.declared.node.ExprId.{ExprId}
+use Rattle.entries.specs.declared.node.Entry.{Entry}
+use Rattle.entries.specs.declared.node.Entry.TheVariants.{Expression}
+use Rattle.entries.specs.declared.node.ExprId.{ExprId}
 use Rattle.lexicon.proofs.Frames.{every-at}
 use Rattle.terms.proofs.Walks.{listed-arguments}
 

@@ -10,8 +10,8 @@ use Rattle.terms.specs.Acceptance.{acceptable}
 use Rattle.terms.specs.Build.{build, trees, inside, sound, width_of}
 use Rattle.lexicon.specs.Lexicon.{functions_of, text_of}
 use Rattle.terms.specs.Views.{View, view_of, grown}
-use Rattle.terms.specs.declared.node.Entry.{Entry}
-use Rattle.terms.specs.declared.node.ExprRecord.{ExprRecord}
+use Rattle.entries.specs.declared.node.Entry.{Entry}
+use Rattle.entries.specs.declared.node.ExprRecord.{ExprRecord}
 use Rattle.terms.specs.declared.terms.Terms.{Terms}
 use Rattle.lexicon.proofs.Frames.{every_append}
 use Rattle.terms.proofs.Trees.{trees-grown, trees-push, sound-push, trees-length}

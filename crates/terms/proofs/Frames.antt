@@ -5,12 +5,12 @@ use Rattle.lexicon.proofs.Frames.{span_grow}
 use Rattle.plan.specs.Terms.Qualifier.{qualified}
 use Rattle.plan.specs.Terms.Literal.{text}
 use Rattle.plan.specs.Fields.{every}
-use Rattle.terms.specs.Spans.{qualifier_at, qualifier_in, literal_at, literal_in, stored_field, stored_in}
+use Rattle.entries.specs.Spans.{qualifier_at, qualifier_in, literal_at, literal_in, stored_field, stored_in}
 use Rattle.names.specs.Spans.{span_in}
 use Rattle.names.specs.declared.parts.Span.{Span}
-use Rattle.terms.specs.declared.node.Literal.{Literal}
-use Rattle.terms.specs.declared.node.Literal.TheVariants.{Null, Truth, Whole, Real, Text}
-use Rattle.terms.specs.declared.node.StoredField.{StoredField}
+use Rattle.entries.specs.declared.node.Literal.{Literal}
+use Rattle.entries.specs.declared.node.Literal.TheVariants.{Null, Truth, Whole, Real, Text}
+use Rattle.entries.specs.declared.node.StoredField.{StoredField}
 
 module _ (bs bs' : List ℕ) where
   pub qualifier-grow : (q : Option Span) → qualifier_in bs q ≡ true → (qualifier_at (bs ++ bs') q ≡ qualifier_at bs q) × (qualifier_in (bs ++ bs') q ≡ true)

@@ -7,13 +7,13 @@ use Rattle.plan.specs.Terms.{Expr, arguments}
 use Rattle.plan.specs.Terms.Expr.{literal, reference, alias, call}
 use Rattle.plan.specs.Model.{no_expr, expr_in, exprs_in}
 use Rattle.plan.specs.Calls.{below, all_below}
-use Rattle.terms.specs.Spans.{stored_field, stored_in}
+use Rattle.entries.specs.Spans.{stored_field, stored_in}
 use Rattle.terms.specs.Build.{numbers_in, build_node, build, trees, inside_node, inside, sound}
-use Rattle.terms.specs.Entries.{entry_number}
-use Rattle.terms.specs.declared.node.Entry.{Entry}
-use Rattle.terms.specs.declared.node.ExprNode.{ExprNode}
-use Rattle.terms.specs.declared.node.ExprNode.TheVariants.{Constant, Reference, Alias, Call}
-use Rattle.terms.specs.declared.node.ExprRecord.{ExprRecord}
+use Rattle.entries.specs.Entries.{entry_number}
+use Rattle.entries.specs.declared.node.Entry.{Entry}
+use Rattle.entries.specs.declared.node.ExprNode.{ExprNode}
+use Rattle.entries.specs.declared.node.ExprNode.TheVariants.{Constant, Reference, Alias, Call}
+use Rattle.entries.specs.declared.node.ExprRecord.{ExprRecord}
 use Rattle.terms.proofs.Frames.{literal-grow, field-grow}
 
 -- the text and the lists grow

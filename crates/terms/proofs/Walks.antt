@@ -18,10 +18,10 @@ use Rattle.plan.specs.Questions.{small_tree}
 use Rattle.plan.specs.Calls.{below, all_below, arity_is}
 use Rattle.terms.specs.Acceptance.{acceptable, all_acceptable}
 use Rattle.terms.specs.Build.{numbers_in, inside_node}
-use Rattle.terms.specs.Entries.{entry_number}
-use Rattle.terms.specs.declared.node.Entry.{Entry}
-use Rattle.terms.specs.declared.node.ExprNode.TheVariants.{Call}
-use Rattle.terms.specs.declared.node.Run.{Run}
+use Rattle.entries.specs.Entries.{entry_number}
+use Rattle.entries.specs.declared.node.Entry.{Entry}
+use Rattle.entries.specs.declared.node.ExprNode.TheVariants.{Call}
+use Rattle.entries.specs.declared.node.Run.{Run}
 use Rattle.terms.specs.declared.terms.Terms.{Terms}
 use Rattle.terms.specs.Views.{count, tree_for, tree_of, view_of}
 use Rattle.terms.proofs.Bounds.{few-arguments}

@@ -10,12 +10,12 @@ use Rattle.plan.specs.Functions.{Functions}
 use Rattle.plan.specs.Rendering.{rendered}
 use Rattle.plan.specs.Model.{expr_in, exprs_in}
 use Rattle.plan.specs.Calls.{all_below}
-use Rattle.terms.specs.Entries.{entry_number}
-use Rattle.terms.specs.Spans.{literal_at, literal_in, stored_field, stored_in}
-use Rattle.terms.specs.declared.node.Entry.{Entry}
-use Rattle.terms.specs.declared.node.ExprNode.{ExprNode}
-use Rattle.terms.specs.declared.node.ExprNode.TheVariants.{Constant, Reference, Alias, Call}
-use Rattle.terms.specs.declared.node.ExprRecord.{ExprRecord}
+use Rattle.entries.specs.Entries.{entry_number}
+use Rattle.entries.specs.Spans.{literal_at, literal_in, stored_field, stored_in}
+use Rattle.entries.specs.declared.node.Entry.{Entry}
+use Rattle.entries.specs.declared.node.ExprNode.{ExprNode}
+use Rattle.entries.specs.declared.node.ExprNode.TheVariants.{Constant, Reference, Alias, Call}
+use Rattle.entries.specs.declared.node.ExprRecord.{ExprRecord}
 
 abbrev pub numbers_in : List Entry → ℕ → ℕ → List ℕ
 numbers_in entries first count = map entry_number (part entries first count)

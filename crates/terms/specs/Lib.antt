@@ -1,5 +1,3 @@
-pub mod Entries
-pub mod Spans
 pub mod Acceptance
 pub mod Build
 pub mod Views

@@ -10,9 +10,9 @@ use Rattle.plan.specs.Functions.{Functions}
 use Rattle.plan.specs.Model.{expr_in, exprs_in}
 use Rattle.terms.specs.Build.{trees, build_node}
 use Rattle.lexicon.specs.Lexicon.{text_of, functions_of}
-use Rattle.terms.specs.declared.node.Entry.{Entry}
-use Rattle.terms.specs.declared.node.ExprId.{ExprId}
-use Rattle.terms.specs.declared.node.ExprNode.{ExprNode}
+use Rattle.entries.specs.declared.node.Entry.{Entry}
+use Rattle.entries.specs.declared.node.ExprId.{ExprId}
+use Rattle.entries.specs.declared.node.ExprNode.{ExprNode}
 use Rattle.terms.specs.declared.terms.Terms.{Terms}
 
 pub record View : Type 0 where

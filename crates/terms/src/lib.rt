@@ -1,7 +1,5 @@
 //! Expression trees in fixed tables.
 #![tactic(auto)]
 
-pub mod listed;
 pub mod marks;
-pub mod node;
 pub mod terms;

@@ -6,7 +6,7 @@ ghost use Rattle.terms.specs.Build.{sound, trees, width_of};
 ghost use Rattle.lexicon.specs.Lexicon.{functions_of, text_of};
 ghost use Rattle.std.specs.Prelude.{◌≡◌, ◌≤◌, true, map, length};
 
-use crate::node::{Entry, ExprRecord};
+use entries::node::{Entry, ExprRecord};
 use lexicon::lexicon::Lexicon;
 use table::table::Table;
 

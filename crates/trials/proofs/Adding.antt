@@ -3,7 +3,7 @@ use Rattle.std.proofs.Common.{◌≡◌, ℕ, ◌+◌, ◌<◌, List, [], ◌++�
 use Rattle.std.proofs.lemmas.List.Edits.{fill_by_more}
 use Rattle.plan.specs.Calls.{Call, Made, new_exprs, new_plans, number_of_new}
 use Rattle.plan.specs.Model.{Model}
-use Rattle.terms.specs.declared.node.ExprId.{ExprId}
+use Rattle.entries.specs.declared.node.ExprId.{ExprId}
 use Rattle.trials.specs.Trials.{Adds, expr_id}
 
 pub adds-none : (m : Model) (es : List ExprId) → Adds m es 0 m

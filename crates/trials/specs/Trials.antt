@@ -14,7 +14,7 @@ use Rattle.plan.specs.Terms.{Expr}
 use Rattle.plan.specs.Terms.Expr.{literal}
 use Rattle.plan.specs.Terms.Literal.{whole}
 use Rattle.plan.specs.declared.fault.Fault.{Fault}
-use Rattle.terms.specs.declared.node.ExprId.{ExprId}
+use Rattle.entries.specs.declared.node.ExprId.{ExprId}
 
 abbrev pub is_refused : {A : Type 0} → ℕ → Result A Fault → Bool
 is_refused q (Ok v) = false

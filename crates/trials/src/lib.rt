@@ -11,7 +11,7 @@ use book::declaration::Book;
 use book::opened::OpenBook;
 use plan::fault::Fault;
 use tables::node::Key;
-use terms::node::ExprId;
+use entries::node::ExprId;
 
 /// Function 0 has no argument, 1 to 4 have as many as their number; none is a total.
 pub const NONE: u8 = 0;

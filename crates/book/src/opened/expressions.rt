@@ -10,7 +10,7 @@ ghost use Rattle.terms.specs.Views.{numbers_of};
 
 use super::OpenBook;
 use plan::fault::Fault;
-use terms::node::ExprId;
+use entries::node::ExprId;
 
 impl OpenBook {
     /// The null literal.

@@ -12,7 +12,7 @@ use super::OpenBook;
 use building::{nodes, wider};
 use plan::fault::Fault;
 use tables::node::Key;
-use terms::node::{ExprId, PlanId};
+use entries::node::{ExprId, PlanId};
 
 impl OpenBook {
     /// A Table: a qualifier, and the names of its fields parted by commas.

@@ -5,7 +5,7 @@ ghost use Rattle.rewriting.specs.Book.{Law};
 
 use super::OpenBook;
 use plan::fault::{Fault, Question, ask};
-use terms::node::PlanId;
+use entries::node::PlanId;
 
 impl OpenBook {
     fn ask_origin(&self, a: PlanId, b: PlanId) -> Result<bool, Fault>

@@ -14,7 +14,7 @@ ghost use Rattle.looking.specs.Tracing.{found_plan};
 ghost use Rattle.table.specs.Contents.{part};
 ghost use Rattle.terms.specs.Build.{numbers_in};
 ghost use Rattle.lexicon.specs.Declarations.{function_in};
-ghost use Rattle.terms.specs.Spans.{stored_field, stored_in};
+ghost use Rattle.entries.specs.Spans.{stored_field, stored_in};
 ghost use Rattle.names.specs.Spans.{span_in, word};
 ghost use Rattle.terms.specs.Views.{tree_for};
 
@@ -24,7 +24,7 @@ use looking::looking::{entry, expr, field, function, listed, node_fields, plan, 
 use looking::tracing::trace;
 use plan::fault::Fault;
 use tables::node::{PlanRecord, Run};
-use terms::node::{Entry, ExprId, ExprNode, PlanId, Span, StoredField};
+use entries::node::{Entry, ExprId, ExprNode, PlanId, Span, StoredField};
 use terms::terms::Terms;
 
 impl OpenBook {

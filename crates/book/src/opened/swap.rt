@@ -7,7 +7,7 @@ ghost use Rattle.tables.specs.Answering.{answered_plan};
 use super::OpenBook;
 use plan::fault::Fault;
 use swapping::swapping::swap;
-use terms::node::PlanId;
+use entries::node::PlanId;
 
 impl OpenBook {
     /// A node like `node`, with `input` in place of its input at a position. Both inputs have one origin, and the new

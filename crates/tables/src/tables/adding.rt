@@ -13,7 +13,7 @@ use crate::node::{NewNode, PlanRecord, Run};
 use crate::placing::place;
 use draft::storing::store;
 use draft::word::DraftField;
-use terms::node::PlanId;
+use entries::node::PlanId;
 
 impl Tables {
     /// Stores a node that has passed its questions, with the size of its tree and a draft of its fields.

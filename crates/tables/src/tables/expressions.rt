@@ -11,13 +11,13 @@ ghost use Rattle.plan.specs.Questions.{small_tree};
 ghost use Rattle.plan.specs.Terms.Expr.{alias as alias_tree, reference as reference_tree};
 ghost use Rattle.plan.specs.Terms.Literal.{null as null_literal, real as real_literal, text as text_literal, truth as truth_literal, whole as whole_literal};
 ghost use Rattle.expression.specs.Building.{given_field};
-ghost use Rattle.terms.specs.Spans.{stored_field, stored_in};
+ghost use Rattle.entries.specs.Spans.{stored_field, stored_in};
 ghost use Rattle.terms.specs.Views.{numbers_of};
 
 use super::Tables;
 use expression::{building, calling, reusing};
 use plan::fault::Fault;
-use terms::node::{ExprId, StoredField};
+use entries::node::{ExprId, StoredField};
 
 impl Tables {
     /// The null literal.

@@ -5,8 +5,8 @@ ghost use Rattle.tables.specs.Holding.{model_of, plan_count};
 
 use super::Tables;
 use crate::node::PlanNode;
-use terms::listed::Listed;
-use terms::node::PlanId;
+use entries::listed::Listed;
+use entries::node::PlanId;
 
 impl Tables {
     /// How many inputs a node has.

@@ -8,7 +8,7 @@ use super::Tables;
 use crate::node::{PlanNode, PlanRecord, Run};
 use lexicon::lexicon::Lexicon;
 use table::table::Table;
-use terms::node::{PlanId, Span, StoredField};
+use entries::node::{PlanId, Span, StoredField};
 use terms::terms::Terms;
 
 impl Tables {

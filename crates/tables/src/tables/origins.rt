@@ -6,7 +6,7 @@ ghost use Rattle.tables.specs.Origins.{OriginGiven};
 
 use super::Tables;
 use crate::node::PlanRecord;
-use terms::node::PlanId;
+use entries::node::PlanId;
 
 /// Sets the origin of a record that is lent.
 // A function of its own, since a rule of the project asks for one that is lent a record and sets a field of it.

@@ -7,12 +7,12 @@ ghost use Rattle.plan.specs.Calls.{all_below, below};
 ghost use Rattle.plan.specs.Fields.{any, every};
 ghost use Rattle.plan.specs.Functions.{is_total};
 ghost use Rattle.plan.specs.Plans.{plan_size_of};
-ghost use Rattle.terms.specs.Spans.{stored_field, stored_in};
+ghost use Rattle.entries.specs.Spans.{stored_field, stored_in};
 ghost use Rattle.terms.specs.Views.{numbers_of};
 
 use super::Tables;
 use crate::node::PlanRecord;
-use terms::node::{ExprId, PlanId, StoredField};
+use entries::node::{ExprId, PlanId, StoredField};
 use terms::terms::Terms;
 
 // That a node or an expression is there is a clause of each call: a number says nothing of the tables, which grow.

@@ -9,7 +9,7 @@ use expression::building;
 use lexicon::lexicon::Lexicon;
 use plan::fault::Fault;
 use std::test::Fail;
-use terms::node::ExprId;
+use entries::node::ExprId;
 
 /// A text literal.
 // By the calls of `expression`, which promise that the tables begin with what there was.

@@ -9,8 +9,8 @@ ghost use Rattle.names.specs.Spans.{span_in, word};
 ghost use Rattle.terms.specs.Views.{count, grown, tree_for, view_of};
 
 use super::Terms;
-use crate::listed::Listed;
-use crate::node::{Entry, ExprId, ExprNode, ExprRecord, Literal, Run, Span};
+use entries::listed::Listed;
+use entries::node::{Entry, ExprId, ExprNode, ExprRecord, Literal, Run, Span};
 use lexicon::lexicon::Lexicon;
 use table::table::Table;
 

@@ -12,8 +12,8 @@ ghost use Rattle.terms.specs.Build.{inside_node, numbers_in, width_of};
 ghost use Rattle.terms.specs.Views.{AllPresent, count, numbers_of, tree_for, tree_of, view_of};
 
 use super::Terms;
-use crate::listed::Listed;
-use crate::node::{Entry, ExprId, ExprNode, Run, Span};
+use entries::listed::Listed;
+use entries::node::{Entry, ExprId, ExprNode, Run, Span};
 use lexicon::declaration::Declaration;
 use plan::code::Rule;
 

@@ -3,7 +3,7 @@ use Rattle.std.proofs.lemmas.Iterator.{YieldsList-from_slice}
 use Rattle.std.proofs.lemmas.Iterator.Search.{all_from_yields_List}
 use Rattle.plan.specs.Fields.{resolved}
 use Rattle.plan.specs.Model.{expr_in}
-use Rattle.terms.specs.Spans.{stored_field}
+use Rattle.entries.specs.Spans.{stored_field}
 use Rattle.tables.specs.Holding.{view_in}
 use Rattle.terms.proofs.Walks.{every-twice, serves_low}
 use Rattle.asking.proofs.asking.all_resolved.Goals as goal

@@ -1,5 +1,5 @@
 use Rattle.std.proofs.Common.{sym, ◌∙◌}
-use Rattle.terms.specs.declared.node.PlanId.{PlanId}
+use Rattle.entries.specs.declared.node.PlanId.{PlanId}
 use Rattle.tables.specs.Holding.{view_in, trees_in, plan_count}
 use Rattle.terms.proofs.Walks.{item_below}
 use Rattle.asking.proofs.NodeFacts.{union-width}

@@ -5,7 +5,7 @@ use Rattle.std.proofs.lemmas.Iterator.Search.{all_from_yields_List}
 use Rattle.plan.specs.Functions.{is_total}
 use Rattle.plan.specs.Model.{expr_in}
 use Rattle.tables.specs.Holding.{view_in}
-use Rattle.terms.specs.declared.node.ExprId.{ExprId}
+use Rattle.entries.specs.declared.node.ExprId.{ExprId}
 use Rattle.terms.proofs.Walks.{every-twice, item_below}
 use Rattle.building.proofs.wider.all_total.Goals as goal
 

@@ -1,7 +1,7 @@
 use Rattle.std.proofs.Common.{◌∙◌, rules, tests}
 use Rattle.std.proofs.lemmas.Iterator.{YieldsList-from_slice}
 use Rattle.std.proofs.lemmas.Iterator.Search.{all_from_yields_List}
-use Rattle.terms.specs.declared.node.PlanId.{PlanId}
+use Rattle.entries.specs.declared.node.PlanId.{PlanId}
 use Rattle.plan.specs.Calls.{below}
 use Rattle.terms.proofs.Walks.{every-mapped}
 use Rattle.tables.specs.Holding.{plan_count}

@@ -1,6 +1,6 @@
 use Rattle.std.proofs.Common.{eqb, length, sym, ap, ◌∙◌, ap₂}
 use Rattle.std.proofs.lemmas.List.{length-map}
-use Rattle.terms.specs.Spans.{stored_field}
+use Rattle.entries.specs.Spans.{stored_field}
 use Rattle.tables.specs.Holding.{view_in}
 use Rattle.building.proofs.wider.same_width.Goals as goal
 

@@ -4,7 +4,7 @@ use Rattle.std.proofs.lemmas.Iterator.Adapters.{serves_from_places}
 use Rattle.std.proofs.lemmas.Iterator.Search.{all_from_yields_List}
 use Rattle.plan.specs.Model.{plan_in}
 use Rattle.plan.specs.Plans.{fields_of}
-use Rattle.terms.specs.declared.node.PlanId.{PlanId}
+use Rattle.entries.specs.declared.node.PlanId.{PlanId}
 use Rattle.tables.specs.Holding.{view_in, trees_in, fields_at, plan_count}
 use Rattle.terms.proofs.Walks.{every-twice, item_below}
 use Rattle.building.proofs.WiderFacts.{equal-widths}

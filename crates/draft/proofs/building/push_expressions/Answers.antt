@@ -1,6 +1,6 @@
 use Rattle.std.proofs.Common.{ℕ, ◌<◌, length, rules}
 use Rattle.terms.specs.Views.{count, view_of}
-use Rattle.terms.specs.declared.node.ExprId.{ExprId}
+use Rattle.entries.specs.declared.node.ExprId.{ExprId}
 use Rattle.terms.proofs.Walks.{item_below}
 use Rattle.draft.proofs.Growing.{pushed-fields}
 use Rattle.draft.proofs.building.push_expressions.Goals as goal

@@ -9,7 +9,7 @@ use Rattle.plan.specs.Terms.{Expr}
 use Rattle.plan.specs.Terms.Expr.{literal, reference, alias, call}
 use Rattle.terms.specs.Build.{width_of}
 use Rattle.terms.specs.Views.{count, numbers_of, tree_of, view_of}
-use Rattle.terms.specs.declared.node.ExprId.{ExprId}
+use Rattle.entries.specs.declared.node.ExprId.{ExprId}
 use Rattle.terms.specs.declared.terms.Terms.{Terms}
 use Rattle.terms.proofs.Arguments.{bounded-sum, short-name}
 use Rattle.terms.proofs.Walks.{serves_low}

@@ -9,7 +9,7 @@ use Rattle.plan.specs.Calls.{all_below}
 use Rattle.terms.specs.Acceptance.{acceptable}
 use Rattle.terms.specs.Build.{width_of}
 use Rattle.terms.specs.Views.{view_of, numbers_of}
-use Rattle.terms.specs.declared.node.Entry.TheVariants.{Expression}
+use Rattle.entries.specs.declared.node.Entry.TheVariants.{Expression}
 use Rattle.terms.proofs.Bounds.{few-arguments}
 use Rattle.expression.proofs.Grown.{roomy-parts, grew_from, same-trees, same-functions}
 use Rattle.terms.proofs.Facts.{same_count}

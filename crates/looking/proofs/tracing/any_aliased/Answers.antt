@@ -6,7 +6,7 @@ use Rattle.plan.specs.Calls.{all_below}
 use Rattle.plan.specs.Fields.{any}
 use Rattle.plan.specs.Model.{expr_in}
 use Rattle.plan.specs.Tracing.{aliased}
-use Rattle.terms.specs.Entries.{entry_number}
+use Rattle.entries.specs.Entries.{entry_number}
 use Rattle.tables.specs.Holding.{view_in}
 use Rattle.tables.specs.Stored.{run_in}
 use Rattle.terms.proofs.Walks.{any-twice, serves_low}

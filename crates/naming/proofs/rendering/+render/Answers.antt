@@ -5,11 +5,11 @@ use Rattle.plan.specs.Terms.Expr.{call}
 use Rattle.plan.specs.Rendering.{rendered, rendered_all}
 use Rattle.plan.specs.Model.{expr_in, no_expr}
 use Rattle.terms.specs.Build.{gap, width_of}
-use Rattle.terms.specs.Entries.{entry_number, expr_of}
+use Rattle.entries.specs.Entries.{entry_number, expr_of}
 use Rattle.terms.specs.Views.{view_of, tree_of}
-use Rattle.terms.specs.declared.node.Entry.{Entry}
-use Rattle.terms.specs.declared.node.Entry.TheVariants.{Expression}
-use Rattle.terms.specs.declared.node.ExprId.{ExprId}
+use Rattle.entries.specs.declared.node.Entry.{Entry}
+use Rattle.entries.specs.declared.node.Entry.TheVariants.{Expression}
+use Rattle.entries.specs.declared.node.ExprId.{ExprId}
 use Rattle.terms.specs.declared.terms.Terms.{Terms}
 use Rattle.terms.proofs.Walks.{listed_lower}
 use Rattle.terms.proofs.Rendered.{all_more, argument-fits, call_fits, opened-length, closed}

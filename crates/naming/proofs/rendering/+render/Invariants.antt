@@ -2,7 +2,7 @@ use Rattle.std.proofs.Common.{◌≡◌, ◌++◌, map, take}
 use Rattle.plan.specs.Model.{expr_in}
 use Rattle.plan.specs.Rendering.{rendered_all}
 use Rattle.plan.specs.Terms.{arguments}
-use Rattle.terms.specs.Entries.{entry_number}
+use Rattle.entries.specs.Entries.{entry_number}
 use Rattle.terms.specs.Views.{view_of}
 use Rattle.naming.proofs.rendering.+render.Given as goal
 

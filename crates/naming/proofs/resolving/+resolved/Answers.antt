@@ -3,11 +3,11 @@ use Rattle.table.proofs.Loops.{twice-step, twice-end}
 use Rattle.plan.specs.Fields.{every, resolved}
 use Rattle.plan.specs.Model.{expr_in}
 use Rattle.terms.specs.Build.{numbers_in}
-use Rattle.terms.specs.Entries.{entry_number}
-use Rattle.terms.specs.Spans.{stored_field}
+use Rattle.entries.specs.Entries.{entry_number}
+use Rattle.entries.specs.Spans.{stored_field}
 use Rattle.terms.specs.Views.{view_of}
-use Rattle.terms.specs.declared.node.Entry.{Entry}
-use Rattle.terms.specs.declared.node.Entry.TheVariants.{Expression}
+use Rattle.entries.specs.declared.node.Entry.{Entry}
+use Rattle.entries.specs.declared.node.Entry.TheVariants.{Expression}
 use Rattle.terms.proofs.Walks.{listed_lower, resolved-arguments}
 use Rattle.naming.proofs.resolving.+resolved.Goals as goal
 

@@ -1,8 +1,8 @@
 use Rattle.std.proofs.Common.{◌≡◌, ◌++◌, map, drop}
 use Rattle.plan.specs.Fields.{every, resolved}
 use Rattle.plan.specs.Model.{expr_in}
-use Rattle.terms.specs.Entries.{entry_number}
-use Rattle.terms.specs.Spans.{stored_field}
+use Rattle.entries.specs.Entries.{entry_number}
+use Rattle.entries.specs.Spans.{stored_field}
 use Rattle.terms.specs.Views.{view_of}
 use Rattle.naming.proofs.resolving.+resolved.Given as goal
 

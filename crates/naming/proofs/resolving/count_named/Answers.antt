@@ -2,10 +2,10 @@ use Rattle.std.proofs.Common.{None, sym, ◌∙◌, ap₂, arith}
 use Rattle.std.specs.Str.{bytes_eq}
 use Rattle.table.proofs.Loops.{counted-yes, counted-no}
 use Rattle.plan.specs.Fields.{named}
-use Rattle.terms.specs.Spans.{stored_field}
+use Rattle.entries.specs.Spans.{stored_field}
 use Rattle.names.specs.Spans.{word}
 use Rattle.terms.specs.Views.{view_of}
-use Rattle.terms.specs.declared.node.StoredField.{StoredField}
+use Rattle.entries.specs.declared.node.StoredField.{StoredField}
 use Rattle.naming.proofs.resolving.count_named.Goals as goal
 use Rattle.naming.proofs.resolving.count_named.Goals.{then-eq, else-eq}
 

@@ -1,6 +1,6 @@
 use Rattle.std.proofs.Common.{◌≡◌, ◌≤◌, map, take, count_by}
 use Rattle.plan.specs.Fields.{named}
-use Rattle.terms.specs.Spans.{stored_field}
+use Rattle.entries.specs.Spans.{stored_field}
 use Rattle.names.specs.Spans.{word}
 use Rattle.terms.specs.Views.{view_of}
 use Rattle.naming.proofs.resolving.count_named.Given as goal

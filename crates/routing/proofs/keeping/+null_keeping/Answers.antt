@@ -3,10 +3,10 @@ use Rattle.table.proofs.Loops.{twice-step, twice-end}
 use Rattle.plan.specs.Fields.{any}
 use Rattle.plan.specs.Functions.{null_keeping}
 use Rattle.plan.specs.Model.{expr_in}
-use Rattle.terms.specs.Entries.{entry_number}
+use Rattle.entries.specs.Entries.{entry_number}
 use Rattle.terms.specs.Views.{view_of}
-use Rattle.terms.specs.declared.node.Entry.{Entry}
-use Rattle.terms.specs.declared.node.Entry.TheVariants.{Expression}
+use Rattle.entries.specs.declared.node.Entry.{Entry}
+use Rattle.entries.specs.declared.node.Entry.TheVariants.{Expression}
 use Rattle.terms.proofs.Walks.{call-of, entry_trees, lower}
 use Rattle.routing.proofs.Nulls.{of-call}
 use Rattle.routing.proofs.keeping.+null_keeping.Goals as goal

@@ -8,11 +8,11 @@ use Rattle.plan.specs.Model.{expr_in}
 use Rattle.plan.specs.Terms.{arguments}
 use Rattle.plan.specs.Terms.Expr.{call}
 use Rattle.rewriting.specs.Routing.{holds_marked}
-use Rattle.terms.specs.Entries.{entry_number}
-use Rattle.terms.specs.Spans.{stored_field}
+use Rattle.entries.specs.Entries.{entry_number}
+use Rattle.entries.specs.Spans.{stored_field}
 use Rattle.terms.specs.Views.{tree_of, view_of}
-use Rattle.terms.specs.declared.node.Entry.{Entry}
-use Rattle.terms.specs.declared.node.Entry.TheVariants.{Expression}
+use Rattle.entries.specs.declared.node.Entry.{Entry}
+use Rattle.entries.specs.declared.node.Entry.TheVariants.{Expression}
 use Rattle.terms.proofs.Walks.{call-of, entry_trees, lower}
 use Rattle.routing.proofs.Marking.{of-alias, of-call, of-plain}
 use Rattle.routing.proofs.marked.+holds_marked.Goals as goal

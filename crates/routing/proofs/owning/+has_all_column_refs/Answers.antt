@@ -3,11 +3,11 @@ use Rattle.table.proofs.Loops.{twice-step, twice-end}
 use Rattle.plan.specs.Fields.{every}
 use Rattle.plan.specs.Model.{expr_in}
 use Rattle.rewriting.specs.Routing.{has_all_column_refs, schema_columns}
-use Rattle.terms.specs.Entries.{entry_number}
-use Rattle.terms.specs.Spans.{literal_at, stored_field}
+use Rattle.entries.specs.Entries.{entry_number}
+use Rattle.entries.specs.Spans.{literal_at, stored_field}
 use Rattle.terms.specs.Views.{tree_of, view_of}
-use Rattle.terms.specs.declared.node.Entry.{Entry}
-use Rattle.terms.specs.declared.node.Entry.TheVariants.{Expression}
+use Rattle.entries.specs.declared.node.Entry.{Entry}
+use Rattle.entries.specs.declared.node.Entry.TheVariants.{Expression}
 use Rattle.terms.proofs.Walks.{call-of, entry_trees, lower}
 use Rattle.routing.proofs.Columns.{of-alias, of-call, of-literal, of-reference}
 use Rattle.routing.proofs.owning.+has_all_column_refs.Goals as goal

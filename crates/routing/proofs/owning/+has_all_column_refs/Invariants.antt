@@ -1,7 +1,7 @@
 use Rattle.std.proofs.Common.{◌≡◌, drop, map}
 use Rattle.plan.specs.Fields.{every}
 use Rattle.rewriting.specs.Routing.{has_all_column_refs, schema_columns}
-use Rattle.terms.specs.Spans.{stored_field}
+use Rattle.entries.specs.Spans.{stored_field}
 use Rattle.terms.specs.Views.{view_of}
 use Rattle.terms.proofs.Walks.{entry_trees}
 use Rattle.routing.proofs.owning.+has_all_column_refs.Given as goal

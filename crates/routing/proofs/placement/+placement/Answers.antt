@@ -3,8 +3,8 @@ use Rattle.std.proofs.lemmas.List.{take_all}
 use Rattle.plan.specs.Functions.{placed_by as placed_tree, placement_of, rule_in, function_at}
 use Rattle.plan.specs.Model.{no_expr}
 use Rattle.terms.specs.Views.{view_of}
-use Rattle.terms.specs.declared.node.Entry.{Entry}
-use Rattle.terms.specs.declared.node.Entry.TheVariants.{Expression}
+use Rattle.entries.specs.declared.node.Entry.{Entry}
+use Rattle.entries.specs.declared.node.Entry.TheVariants.{Expression}
 use Rattle.terms.proofs.Walks.{argument, call-of, entry_trees, few, long, lower}
 use Rattle.routing.specs.Placing.{named}
 use Rattle.routing.proofs.Placing.{one_more, placements-of}

@@ -1,7 +1,7 @@
 use Rattle.std.proofs.Common.{◌+◌, ◌&&◌, drop, sym, refl, ap, ◌∙◌, arith}
 use Rattle.plan.specs.Terms.{arguments, same_exprs}
-use Rattle.terms.specs.declared.node.Entry.{Entry}
-use Rattle.terms.specs.declared.node.Entry.TheVariants.{Expression}
+use Rattle.entries.specs.declared.node.Entry.{Entry}
+use Rattle.entries.specs.declared.node.Entry.TheVariants.{Expression}
 use Rattle.terms.proofs.Walks.{entry_trees}
 use Rattle.routing.proofs.Equals.{at-end, lower-first, lower-second, one-differs, other-count, other-function, turn}
 use Rattle.routing.proofs.same.+same_expr.Goals as goal

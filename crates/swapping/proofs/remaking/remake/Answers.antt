@@ -4,7 +4,7 @@ use Rattle.plan.specs.Model.{Model, inputs_at}
 use Rattle.plan.specs.Plans.{Plan}
 use Rattle.plan.specs.Swapping.{swap_tree, with_input}
 use Rattle.plan.specs.declared.fault.Fault.{Fault}
-use Rattle.terms.specs.declared.node.PlanId.{PlanId}
+use Rattle.entries.specs.declared.node.PlanId.{PlanId}
 use Rattle.tables.specs.Holding.{view_in, trees_in, tree_in, fields_at, model_of, plan_count}
 use Rattle.tables.specs.Reading.{ReadsAs}
 use Rattle.swapping.specs.Remaking.{TreeMade}

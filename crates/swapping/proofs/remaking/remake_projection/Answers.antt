@@ -2,7 +2,7 @@ use Rattle.std.proofs.Common.{map, length, refl, ap, ◌∙◌, arith}
 use Rattle.std.proofs.lemmas.Bool.{and_parts, and_from, leb-true, lt-ltb}
 use Rattle.table.proofs.Parts.{length_part}
 use Rattle.plan.specs.Plans.Plan.{projection}
-use Rattle.terms.specs.Entries.{expr_of}
+use Rattle.entries.specs.Entries.{expr_of}
 use Rattle.tables.specs.Holding.{view_in, tree_in}
 use Rattle.tables.specs.Stored.{run_in}
 use Rattle.tables.specs.declared.node.NewNode.TheVariants.{Projection}

@@ -6,13 +6,13 @@ use Rattle.table.proofs.Parts.{length_part}
 use Rattle.plan.specs.Calls.{all_below, between, union_of}
 use Rattle.plan.specs.Model.{plans_in}
 use Rattle.terms.specs.Views.{View}
-use Rattle.terms.specs.declared.node.PlanId.{PlanId}
-use Rattle.terms.specs.Entries.{input_of}
+use Rattle.entries.specs.declared.node.PlanId.{PlanId}
+use Rattle.entries.specs.Entries.{input_of}
 use Rattle.tables.specs.Holding.{view_in, trees_in, plan_count}
 use Rattle.tables.specs.Making.{input_numbers}
 use Rattle.tables.specs.Stored.{run_in, run_numbers}
 use Rattle.tables.specs.declared.node.NewNode.TheVariants.{Union}
-use Rattle.terms.specs.declared.node.Run.{Run}
+use Rattle.entries.specs.declared.node.Run.{Run}
 use Rattle.tables.proofs.Lent.{entries-lent}
 use Rattle.swapping.proofs.Remade.{copy-long, inputs-copied, below_set, made-anew}
 use Rattle.swapping.proofs.remaking.remake_union.Goals as goal

@@ -6,7 +6,7 @@ use Rattle.plan.specs.Model.{plan_in, plans_in}
 use Rattle.plan.specs.Names.{good_name}
 use Rattle.plan.specs.Calls.{below, all_below, between, union_of}
 use Rattle.terms.specs.Views.{view_of, numbers_of}
-use Rattle.terms.specs.declared.node.Entry.TheVariants.{Expression, Input}
+use Rattle.entries.specs.declared.node.Entry.TheVariants.{Expression, Input}
 use Rattle.tables.specs.Making.{present_in, bounded, bytes_for, entries_for, key_numbers}
 use Rattle.tables.specs.Keys.{key_entry}
 use Rattle.tables.specs.declared.node.NewNode.TheVariants.{Table, Projection, Sort, Aggregate, Join, SubqueryAlias, Union}

@@ -6,7 +6,7 @@ use Rattle.plan.specs.Fields.{every}
 use Rattle.plan.specs.Model.{expr_in}
 use Rattle.plan.specs.Calls.{below, all_below, parts, rendered_bytes}
 use Rattle.terms.specs.Views.{numbers_of}
-use Rattle.terms.specs.declared.node.PlanId.{PlanId}
+use Rattle.entries.specs.declared.node.PlanId.{PlanId}
 use Rattle.tables.specs.Holding.{view_in, trees_in, plan_count}
 use Rattle.tables.specs.Making.{present, bounded, well_named}
 use Rattle.tables.specs.declared.node.NewNode.TheVariants.{Table, Projection, Aggregate, SubqueryAlias, Union}

@@ -6,7 +6,7 @@ use Rattle.plan.specs.Terms.Literal.{whole as whole_literal}
 use Rattle.plan.specs.declared.fault.Fault.{Fault}
 use Rattle.rewriting.specs.Book.{Answers}
 use Rattle.rewriting.specs.Book.Request.{build}
-use Rattle.terms.specs.declared.node.ExprId.{ExprId}
+use Rattle.entries.specs.declared.node.ExprId.{ExprId}
 use Rattle.tables.specs.Answering.{answered_expr}
 use Rattle.tables.specs.Holding.{model_of}
 use Rattle.rewriting.proofs.Reached.{reached-further}

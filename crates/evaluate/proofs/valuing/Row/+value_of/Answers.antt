@@ -4,10 +4,10 @@ use Rattle.table.specs.Contents.{part}
 use Rattle.plan.specs.Model.{no_expr}
 use Rattle.plan.specs.Values.Value.{null}
 use Rattle.rows.specs.Rows.{value_in}
-use Rattle.terms.specs.Spans.{literal_at, stored_field}
+use Rattle.entries.specs.Spans.{literal_at, stored_field}
 use Rattle.terms.specs.Views.{tree_of, view_of}
-use Rattle.terms.specs.declared.node.Entry.{Entry}
-use Rattle.terms.specs.declared.node.Entry.TheVariants.{Expression}
+use Rattle.entries.specs.declared.node.Entry.{Entry}
+use Rattle.entries.specs.declared.node.Entry.TheVariants.{Expression}
 use Rattle.value.specs.Meanings.{meaning_of}
 use Rattle.value.specs.declared.Value.TheVariants.{Null}
 use Rattle.evaluate.specs.Evaluating.{bare}

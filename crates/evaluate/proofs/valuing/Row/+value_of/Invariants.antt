@@ -1,8 +1,8 @@
 use Rattle.std.proofs.Common.{◌≡◌, map, take}
 use Rattle.plan.specs.Model.{expr_in}
 use Rattle.rows.specs.Rows.{value_in}
-use Rattle.terms.specs.Entries.{entry_number}
-use Rattle.terms.specs.Spans.{stored_field}
+use Rattle.entries.specs.Entries.{entry_number}
+use Rattle.entries.specs.Spans.{stored_field}
 use Rattle.terms.specs.Views.{view_of}
 use Rattle.value.specs.Meanings.{meaning_of}
 use Rattle.evaluate.specs.Evaluating.{bare}

@@ -5,9 +5,9 @@ use Rattle.plan.specs.Faults.{Asked, Decided}
 use Rattle.plan.specs.Fields.{resolved}
 use Rattle.plan.specs.Functions.{is_total}
 use Rattle.plan.specs.declared.fault.Question.TheVariants.{Bounded, Placed, Resolved}
-use Rattle.terms.specs.Spans.{stored_field}
+use Rattle.entries.specs.Spans.{stored_field}
 use Rattle.terms.specs.Views.{count, tree_of, view_of}
-use Rattle.terms.specs.declared.node.StoredField.{StoredField}
+use Rattle.entries.specs.declared.node.StoredField.{StoredField}
 use Rattle.terms.specs.declared.terms.Terms.{Terms}
 use Rattle.evaluate.specs.Evaluating.{holds_total}
 use Rattle.evaluate.proofs.Decisions.{last-decides, passed, refused}

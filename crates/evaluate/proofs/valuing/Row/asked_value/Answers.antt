@@ -1,5 +1,5 @@
 use Rattle.std.proofs.Common.{map, length, ◌∙◌, arith}
-use Rattle.terms.specs.Spans.{stored_field}
+use Rattle.entries.specs.Spans.{stored_field}
 use Rattle.terms.specs.Views.{tree_of, view_of}
 use Rattle.std.proofs.lemmas.List.{length-map}
 use Rattle.terms.proofs.Bounds.{small}

@@ -1,6 +1,6 @@
 use Rattle.std.proofs.Common.{◌&&◌, sym, ap, ◌∙◌, ap₂}
 use Rattle.std.specs.Str.{bytes_eq}
-use Rattle.terms.specs.Spans.{stored_field}
+use Rattle.entries.specs.Spans.{stored_field}
 use Rattle.terms.specs.Views.{view_of}
 use Rattle.evaluate.proofs.Found.{means-by}
 use Rattle.evaluate.proofs.valuing.Row.may_mean.Goals as goal

@@ -3,7 +3,7 @@ use Rattle.std.proofs.lemmas.Iterator.{YieldsList-from_slice, YieldsList-from_ma
 use Rattle.std.proofs.lemmas.Iterator.Consumers.{sum_by_from_yields_List, fits_by_from_yields_list}
 use Rattle.terms.specs.Build.{width_of}
 use Rattle.terms.specs.Views.{count, tree_of, view_of}
-use Rattle.terms.specs.declared.node.ExprId.{ExprId}
+use Rattle.entries.specs.declared.node.ExprId.{ExprId}
 use Rattle.terms.proofs.Arguments.{bounded-sum, short-name, widths-added}
 use Rattle.terms.proofs.Walks.{serves_low}
 use Rattle.expression.proofs.calling.Arguments.blank_widths.Goals as goal

@@ -3,7 +3,7 @@ use Rattle.std.proofs.lemmas.Iterator.{YieldsList-from_slice, YieldsList-from_ma
 use Rattle.std.proofs.lemmas.Iterator.Consumers.{sum_by_from_yields_List, fits_by_from_yields_list}
 use Rattle.plan.specs.Terms.{size_of}
 use Rattle.terms.specs.Views.{count, tree_of}
-use Rattle.terms.specs.declared.node.ExprId.{ExprId}
+use Rattle.entries.specs.declared.node.ExprId.{ExprId}
 use Rattle.terms.proofs.Arguments.{bounded-sum, small-tree, sizes-added}
 use Rattle.terms.proofs.Walks.{serves_low}
 use Rattle.expression.proofs.calling.Arguments.sizes.Goals as goal

@@ -1,7 +1,7 @@
 use Rattle.plan.specs.Model.{expr_in}
 use Rattle.plan.specs.Terms.Expr.{alias}
 use Rattle.lexicon.proofs.Begun.{at-once}
-use Rattle.terms.specs.Spans.{stored_field}
+use Rattle.entries.specs.Spans.{stored_field}
 use Rattle.terms.specs.Views.{view_of}
 use Rattle.tables.specs.Holding.{view_in}
 use Rattle.tables.proofs.Reusing.{held-reused, reused-answers}

@@ -2,7 +2,7 @@ use Rattle.std.proofs.Common.{map, length, ap, ◌∙◌, arith, lit<}
 use Rattle.std.proofs.lemmas.Bool.{leb-true}
 use Rattle.table.proofs.Parts.{length_part}
 use Rattle.plan.specs.Fields.{every}
-use Rattle.terms.specs.Spans.{stored_field, stored_in}
+use Rattle.entries.specs.Spans.{stored_field, stored_in}
 use Rattle.tables.specs.Holding.{view_in}
 use Rattle.tables.proofs.PlanFrames.{every-part}
 use Rattle.tables.proofs.tables.Tables.fields_of.Goals as goal

@@ -1,7 +1,7 @@
 use Rattle.std.proofs.Common.{◌<◌, length, get_or, sym, ap, ◌∙◌, arith}
 use Rattle.std.proofs.lemmas.List.{get_or-map, length-map}
 use Rattle.table.specs.Contents.{part}
-use Rattle.terms.specs.Entries.{entry_number}
+use Rattle.entries.specs.Entries.{entry_number}
 use Rattle.tables.specs.Holding.{view_in}
 use Rattle.tables.specs.declared.node.PlanNode.TheVariants.{Union}
 use Rattle.tables.proofs.Inputs.{as-node, input-lower}

@@ -1,7 +1,7 @@
 use Rattle.std.proofs.Common.{◌≡◌, ℤ, Result, subst, w64}
 use Rattle.std.proofs.lemmas.Int.{to_z-of_z}
 use Rattle.plan.specs.declared.fault.Fault.{Fault}
-use Rattle.terms.specs.declared.node.ExprId.{ExprId}
+use Rattle.entries.specs.declared.node.ExprId.{ExprId}
 use Rattle.plan.specs.Calls.Call.{make_literal}
 use Rattle.plan.specs.Terms.Literal.{whole as whole_literal}
 use Rattle.expression.specs.Building.{Answered}

@@ -3,7 +3,7 @@ use Rattle.std.proofs.lemmas.List.{append-nil, length_push}
 use Rattle.terms.specs.Build.{inside_node}
 use Rattle.lexicon.specs.Lexicon.{functions_of, text_of}
 use Rattle.terms.specs.Views.{view_of}
-use Rattle.terms.specs.declared.node.ExprRecord.{ExprRecord}
+use Rattle.entries.specs.declared.node.ExprRecord.{ExprRecord}
 use Rattle.terms.proofs.Facts.{facts-of, facts-pushed, same_view, counted}
 use Rattle.terms.proofs.Trees.{trees-push}
 use Rattle.terms.proofs.terms.Terms.add.Goals as goal

@@ -2,7 +2,7 @@ use Rattle.std.proofs.Common.{sym, ap, ◌∙◌, arith}
 use Rattle.std.proofs.lemmas.List.{get_or-map}
 use Rattle.table.specs.Contents.{part}
 use Rattle.table.proofs.Parts.{length_part}
-use Rattle.terms.specs.Entries.{entry_number}
+use Rattle.entries.specs.Entries.{entry_number}
 use Rattle.terms.proofs.terms.Terms.listed.Goals as goal
 
 pub returns : goal.returns

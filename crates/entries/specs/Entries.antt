@@ -2,10 +2,10 @@
 --     entry_number e      the number that it names
 --     expr_of e, input_of e      the expression, or the node, of that number
 use Rattle.std.specs.Prelude.{ℕ}
-use Rattle.terms.specs.declared.node.Entry.{Entry}
-use Rattle.terms.specs.declared.node.Entry.TheVariants.{Expression, Key, Input}
-use Rattle.terms.specs.declared.node.ExprId.{ExprId}
-use Rattle.terms.specs.declared.node.PlanId.{PlanId}
+use Rattle.entries.specs.declared.node.Entry.{Entry}
+use Rattle.entries.specs.declared.node.Entry.TheVariants.{Expression, Key, Input}
+use Rattle.entries.specs.declared.node.ExprId.{ExprId}
+use Rattle.entries.specs.declared.node.PlanId.{PlanId}
 
 abbrev pub entry_number : Entry → ℕ
 entry_number (Expression e) = e.0

@@ -1,8 +1,8 @@
 //! What lists hold, as entries of the list table.
 ghost use Rattle.std.specs.Prelude.{◌≡◌, refl};
-ghost use Rattle.terms.specs.Entries.{expr_of, input_of};
-ghost use Rattle.terms.specs.declared.node.Entry.TheVariants.{Expression, Input};
-ghost use Rattle.terms.specs.declared.node.Entry.{Entry};
+ghost use Rattle.entries.specs.Entries.{expr_of, input_of};
+ghost use Rattle.entries.specs.declared.node.Entry.TheVariants.{Expression, Input};
+ghost use Rattle.entries.specs.declared.node.Entry.{Entry};
 
 use crate::node::{Entry, ExprId, PlanId};
 

@@ -8,9 +8,9 @@ use Rattle.names.specs.declared.parts.Span.{Span}
 use Rattle.plan.specs.Terms.{Field, Qualifier, Literal as Constant}
 use Rattle.plan.specs.Terms.Qualifier.{unqualified, qualified}
 use Rattle.plan.specs.Terms.Literal.{null, truth, whole, real, text}
-use Rattle.terms.specs.declared.node.Literal.{Literal}
-use Rattle.terms.specs.declared.node.Literal.TheVariants.{Null, Truth, Whole, Real, Text}
-use Rattle.terms.specs.declared.node.StoredField.{StoredField}
+use Rattle.entries.specs.declared.node.Literal.{Literal}
+use Rattle.entries.specs.declared.node.Literal.TheVariants.{Null, Truth, Whole, Real, Text}
+use Rattle.entries.specs.declared.node.StoredField.{StoredField}
 
 abbrev pub qualifier_at : List ℕ → Option Span → Qualifier
 qualifier_at bytes None = unqualified
