@@ -1,1 +1,4 @@
 mod Digits
+mod Highest
+mod Places
+mod Capped
