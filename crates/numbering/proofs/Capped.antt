@@ -1,17 +1,18 @@
 -- The numbers at one place of the tables, kind by kind, and one turn of a loop over places.
-use Rattle.std.proofs.Common.{◌≡◌, ℕ, ◌+◌, ◌<◌, min, max, List, [], ◌∷◌, ◌++◌, map, length, get_or, take, Some, None, sym, refl, ap, ◌∙◌, arith}
+use Rattle.std.proofs.Common.{◌≡◌, ℕ, ◌+◌, ◌<◌, ◌≤◌, min, max, List, [], ◌∷◌, ◌++◌, map, length, get_or, take, Some, None, sym, refl, ap, ◌∙◌, arith}
 use Rattle.std.specs.List.{flat_map}
 use Rattle.std.proofs.lemmas.List.{get_or-map, length-map}
 use Rattle.names.specs.Spans.{word}
 use Rattle.names.specs.declared.TheConstants.{NUMBER_CAP}
 use Rattle.names.specs.declared.parts.Span.{Span}
-use Rattle.numbering.specs.Own.{capped, names_in, node_own, relation_names}
+use Rattle.numbering.specs.Own.{capped, names_in, node_own, own_names, relation_names}
+use Rattle.numbering.proofs.Bounded.{book-low}
 use Rattle.numbering.proofs.Highest.{capped-turn, highest-append, highest-from, highest-more, highest-none, highest-one, one_name}
 use Rattle.numbering.proofs.Places.{book-numbers, empty-name, exprs-numbers}
 use Rattle.plan.specs.Calls.{union_of}
 use Rattle.plan.specs.Functions.{Functions}
 use Rattle.plan.specs.Model.{Node, no_node, plans_in}
-use Rattle.plan.specs.Names.{Name, number_of}
+use Rattle.plan.specs.Names.{Name, most_number, number_of}
 use Rattle.plan.specs.Plans.{Plan, fields_of}
 use Rattle.plan.specs.Terms.{Field}
 use Rattle.rewriting.specs.Generated.{book_names, field_names, highest, literal_names, list_names, next_number, node_names, qualifier_names}
@@ -98,10 +99,18 @@ node-turn F ns i n a b r p lt e h f g s =
 pub tree-of-node : (ns : List Node) (i : ℕ) → get_or (map (λ n. n.tree) ns) i no_node.tree ≡ (get_or ns i no_node).tree
 tree-of-node ns i = get_or-mapped (λ n. n.tree) ns i no_node
 
--- above all of them
-pub next-capped : (t : Tables) (a b m r : ℕ) → a ≡ capped (flat_map Rattle.numbering.specs.Own.own_names (view_in t).trees) → b ≡ capped (flat_map (node_own (view_in t).functions) (nodes_of t)) → m ≡ max a b → r ≡ max m 99999999 → r + 1 ≡ min (next_number (model_of t)) (NUMBER_CAP + 1)
+-- above all of them: no number in the book is so high that it was capped
+pub next-above : (t : Tables) (a b m r : ℕ) → a ≡ capped (flat_map own_names (view_in t).trees) → b ≡ capped (flat_map (node_own (view_in t).functions) (nodes_of t)) → m ≡ max a b → r ≡ max m 99999999 → r + 1 ≡ next_number (model_of t)
 unfolding next_number book_names
-next-capped t a b m r h k e s =
+next-above t a b m r h k e s =
     let v = view_in t in
     let names = list_names v.trees ++ node_names v.functions (nodes_of t) in
-    omega (arith, highest-from 99999999 names, book-numbers v t.fields t.plans (exprs-numbers (text_of t.terms.lexicon) t.terms.entries t.terms.exprs))
+    let exprs = exprs-numbers (text_of t.terms.lexicon) t.terms.entries t.terms.exprs in
+    omega (arith, highest-from 99999999 names, book-numbers v t.fields t.plans exprs, book-low v t.fields t.plans t.terms.accepted t.numbered exprs)
+
+pub next-bounded : (t : Tables) → next_number (model_of t) ≤ most_number + 1
+unfolding next_number book_names
+next-bounded t =
+    let v = view_in t in
+    let exprs = exprs-numbers (text_of t.terms.lexicon) t.terms.entries t.terms.exprs in
+    omega (arith, highest-from 99999999 (list_names v.trees ++ node_names v.functions (nodes_of t)), book-low v t.fields t.plans t.terms.accepted t.numbered exprs)

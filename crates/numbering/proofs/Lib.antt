@@ -2,3 +2,4 @@ mod Digits
 mod Highest
 mod Places
 mod Capped
+mod Bounded

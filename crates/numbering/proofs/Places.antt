@@ -1,6 +1,7 @@
 -- The numbers of a book are those that stand at its places: a tree's names are its own and those of trees before it.
 use Rattle.std.proofs.Common.{◌≡◌, ℕ, ◌≤◌, max, List, [], ◌∷◌, ◌++◌, map, sym, refl, ap, ◌∙◌, subst, append_assoc, arith}
 use Rattle.std.specs.List.{flat_map}
+use Rattle.std.proofs.lemmas.Grind.{flat_map-append}
 use Rattle.numbering.specs.Own.{names_in, node_own, own_names, relation_names}
 use Rattle.numbering.proofs.Highest.{all-below, at-below, both-below, built-below, first-below, highest-append, highest-more, highest-none, highest-one, none-above, picked-below, second-below}
 use Rattle.plan.specs.Calls.{union_of}
@@ -29,7 +30,7 @@ use Rattle.terms.specs.declared.node.StoredField.{StoredField}
 use Rattle.terms.specs.Entries.{entry_number}
 
 -- expressions
-of-list : (es : List Expr) → list_names es ≡ flat_map expr_names es
+pub of-list : (es : List Expr) → list_names es ≡ flat_map expr_names es
 unfolding list_names
 of-list [] = refl
 of-list (e ∷ es) = ap (λ ns. expr_names e ++ ns) (of-list es)
@@ -76,7 +77,7 @@ module _ (bytes : List ℕ) (entries : List Entry) where
       ap (highest 0) (of-list ts) ∙ omega arith
 
 -- nodes: what a tree has but for expressions and inputs
-abbrev plan_own : Plan → List Name
+abbrev pub plan_own : Plan → List Name
 plan_own (table k q ns) = q ∷ ns
 plan_own (projection es i) = []
 plan_own (filter e i) = []
@@ -109,7 +110,7 @@ unfolding list_names
 keys-below m ts [] h = none-above m
 keys-below m ts (e ∷ es) h = both-below m (expr_names (expr_in ts (entry_number e))) _ (at-below m expr_names no_expr (no-expr-below m) ts (entry_number e) h) (keys-below m ts es h)
 
-columns-named : (q : Name) (ns : List Name) → names_in (map (column_of q) ns) ≡ ns
+pub columns-named : (q : Name) (ns : List Name) → names_in (map (column_of q) ns) ≡ ns
 columns-named q [] = refl
 columns-named q (n ∷ ns) = ap (λ l. n ∷ l) (columns-named q ns)
 
@@ -122,7 +123,7 @@ module _ (v : View) (m : ℕ) (known : highest 0 (flat_map expr_names v.trees) �
     input-below : (i : ℕ) → highest 0 (plan_names (plan_in ts i)) ≤ m
     input-below i = at-below m plan_names no_plan (no-plan-below m) ts i h
 
-    plan-step : (fs : List Field) (n : PlanNode) → highest 0 (plan_own (build_plan_node v fs ts n)) ≤ m → highest 0 (plan_names (build_plan_node v fs ts n)) ≤ m
+    pub plan-step : (fs : List Field) (n : PlanNode) → highest 0 (plan_own (build_plan_node v fs ts n)) ≤ m → highest 0 (plan_names (build_plan_node v fs ts n)) ≤ m
     unfolding plan_names
     plan-step fs (Table k q) own = own
     plan-step fs (Projection i l) own = both-below m (list_names (run_exprs v l)) (plan_names (plan_in ts i.0)) (run-below l) (input-below i.0)
@@ -133,7 +134,7 @@ module _ (v : View) (m : ℕ) (known : highest 0 (flat_map expr_names v.trees) �
         let lists = both-below m (flat_map expr_names (run_exprs v gs)) (flat_map expr_names (run_exprs v us))
         (picked-below m expr_names no_expr (no-expr-below m) v.trees (run_numbers v.entries gs) known) (picked-below m expr_names no_expr (no-expr-below m) v.trees (run_numbers v.entries us) known) in
         both-below m (list_names (run_exprs v gs ++ run_exprs v us)) (plan_names (plan_in ts i.0))
-        (subst (λ ns. highest 0 ns ≤ m) (sym (of-list (run_exprs v gs ++ run_exprs v us) ∙ Rattle.std.proofs.lemmas.Grind.flat_map-append expr_names (run_exprs v gs) (run_exprs v us))) lists) (input-below i.0)
+        (subst (λ ns. highest 0 ns ≤ m) (sym (of-list (run_exprs v gs ++ run_exprs v us) ∙ flat_map-append expr_names (run_exprs v gs) (run_exprs v us))) lists) (input-below i.0)
     plan-step fs (Join j l r cs) own =
         both-below m (list_names (run_exprs v cs)) (plan_names (plan_in ts l.0) ++ plan_names (plan_in ts r.0)) (run-below cs)
         (both-below m (plan_names (plan_in ts l.0)) (plan_names (plan_in ts r.0)) (input-below l.0) (input-below r.0))
@@ -142,10 +143,10 @@ module _ (v : View) (m : ℕ) (known : highest 0 (flat_map expr_names v.trees) �
     plan-step fs (Union l) own = union-below m (plans_in ts (run_numbers v.entries l)) (picked-below m plan_names no_plan (no-plan-below m) ts (run_numbers v.entries l) h)
 
 -- all names of a node, those of its fields too
-abbrev node_all : Functions → Node → List Name
+abbrev pub node_all : Functions → Node → List Name
 node_all F n = names_in (fields_of F n.tree) ++ plan_names n.tree
 
-of-nodes : (F : Functions) (ns : List Node) → node_names F ns ≡ flat_map (node_all F) ns
+pub of-nodes : (F : Functions) (ns : List Node) → node_names F ns ≡ flat_map (node_all F) ns
 unfolding node_names
 of-nodes F [] = refl
 of-nodes F (n ∷ ns) =

@@ -1,11 +1,10 @@
 //! The first number that an alias of a book may take.
-ghost use Rattle.names.specs.declared.TheConstants.{NUMBER_CAP};
 ghost use Rattle.numbering.specs.Own.{capped, names_in, node_own, own_names, relation_names};
 ghost use Rattle.plan.specs.Fields.{every};
-ghost use Rattle.plan.specs.Terms.{Literal as TreeLiteral};
+ghost use Rattle.plan.specs.Names.{most_number};
 ghost use Rattle.rewriting.specs.Generated.{field_names, literal_names, next_number};
 ghost use Rattle.std.specs.List.{flat_map};
-ghost use Rattle.std.specs.Prelude.{◌≡◌, ◌+◌, ◌<◌, min, true, map};
+ghost use Rattle.std.specs.Prelude.{◌≡◌, ◌+◌, ◌<◌, ◌≤◌, true, map};
 ghost use Rattle.tables.specs.Holding.{model_of, nodes_of, plan_count, tree_in, view_in};
 ghost use Rattle.terms.specs.Spans.{literal_at, literal_in, stored_field, stored_in};
 ghost use Rattle.terms.specs.Views.{count, tree_of, view_of};
@@ -19,7 +18,7 @@ use terms::terms::Terms;
 /// Generated aliases have a number above this one.
 const BELOW_FIRST: u32 = 99_999_999;
 
-/// The higher number of a field's name and its qualifier.
+/// The higher of the numbers of a field's name and of its qualifier.
 fn field_number(terms: &Terms, field: StoredField) -> u32
     requires { stored_in (view_of terms.now).bytes field ≡ true }
     ensures { result ≡ capped (field_names (stored_field (view_of terms.now).bytes field)) }
@@ -31,7 +30,7 @@ fn field_number(terms: &Terms, field: StoredField) -> u32
     }
 }
 
-/// The number of a text literal.
+/// The number of a text literal; 0 of another literal.
 fn literal_number(terms: &Terms, literal: Literal) -> u32
     requires { literal_in (view_of terms.now).bytes literal ≡ true }
     ensures { result ≡ capped (literal_names (literal_at (view_of terms.now).bytes literal)) }
@@ -55,7 +54,7 @@ fn expr_number(terms: &Terms, e: ExprId) -> u32
     }
 }
 
-/// The highest number in the expressions.
+/// The highest number in the expressions, each looked at once: the parts of one are others.
 fn highest_in_exprs(terms: &Terms) -> u32
     ensures { result ≡ capped (flat_map own_names (view_of terms.now).trees) }
 {
@@ -78,7 +77,7 @@ fn highest_in_fields(terms: &Terms, fields: &[StoredField]) -> u32
     highest
 }
 
-/// The number of what a node calls a relation.
+/// The number of a Table's qualifier and of a SubqueryAlias's name; 0 of another node.
 fn relation_number(tables: &Tables, p: PlanId) -> u32
     requires { p.0 < plan_count tables.now }
     ensures { result ≡ capped (relation_names (tree_in tables.now p.0)) }
@@ -90,7 +89,7 @@ fn relation_number(tables: &Tables, p: PlanId) -> u32
     }
 }
 
-/// The highest number in the nodes.
+/// The highest number in the nodes' fields and names.
 fn highest_in_nodes(tables: &Tables) -> u32
     ensures { result ≡ capped (flat_map (node_own (view_in tables.now).functions) (nodes_of tables.now)) }
 {
@@ -106,7 +105,8 @@ fn highest_in_nodes(tables: &Tables) -> u32
 
 /// The first number that an alias may take: nine digits, and above every number in the book.
 pub fn next_number(tables: &Tables) -> u32
-    ensures { result ≡ min (next_number (model_of tables.now)) (NUMBER_CAP + 1) }
+    ensures value { result ≡ next_number (model_of tables.now) }
+    ensures bound { result ≤ most_number + 1 }
 {
     let highest = highest_in_exprs(tables.terms()).max(highest_in_nodes(tables));
     highest.max(BELOW_FIRST) + 1
