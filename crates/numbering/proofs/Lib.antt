@@ -1,1 +1,5 @@
 mod Digits
+mod Highest
+mod Places
+mod Capped
+mod Bounded

@@ -2,3 +2,4 @@
 #![tactic(auto)]
 
 pub mod alias;
+pub mod next;

@@ -4,7 +4,8 @@ use Rattle.std.proofs.lemmas.List.{append-nil, append_assoc, length-map, length_
 use Rattle.std.proofs.lemmas.Bool.{and_parts, and_from, leb-true, le-leb}
 use Rattle.table.specs.Contents.{part}
 use Rattle.table.proofs.Parts.{part-added}
-use Rattle.plan.specs.Plans.{fields_of, plan_size_of}
+use Rattle.plan.specs.Names.{Name, good_name}
+use Rattle.plan.specs.Plans.{Plan, fields_of, plan_size_of}
 use Rattle.plan.specs.Fields.{every}
 use Rattle.plan.specs.Questions.{limited, expressions_of, shown_expressions, small_tree, short_name}
 use Rattle.plan.specs.Model.{Space, fits}
@@ -19,9 +20,9 @@ use Rattle.entries.specs.declared.node.StoredField.{StoredField}
 use Rattle.draft.specs.Drafts.{draft_field, draft_in, draft_bytes, StoredAll}
 use Rattle.draft.specs.declared.word.DraftField.{DraftField}
 use Rattle.draft.proofs.Keeping.{drafts-grown}
-use Rattle.tables.specs.Stored.{fields_in, build_plan_node, build_plan, plan_nodes, node_trees, node_inputs, inputs_from, inside_node, accepted_node, inside_plan}
+use Rattle.tables.specs.Stored.{fields_in, build_plan_node, build_plan, plan_nodes, node_trees, node_inputs, inputs_from, inside_node, accepted_node, inside_plan, small_number, small_numbers}
 use Rattle.tables.specs.Holding.{view_in, nodes_of, trees_in, plan_count, model_from, model_of}
-use Rattle.tables.specs.Making.{tree_for, tree_over, entries_for, bytes_for, outlay_for, well_named, inputs_for, NodeStored}
+use Rattle.tables.specs.Making.{tree_for, tree_over, entries_for, bytes_for, outlay_for, well_named, input_numbers, inputs_for, NodeStored}
 use Rattle.tables.specs.Keys.{key_entry}
 use Rattle.tables.specs.Placing.{own_text, own_entries, lent_owner, lent_given, PlacedAs}
 use Rattle.tables.specs.declared.node.NewNode.{NewNode}
@@ -80,6 +81,33 @@ grown-then v w u a b e p q =
 
 pub stored-for : (w u : View) (o g : List ℕ) (ds es : List DraftField) (fs F : List StoredField) → ds ≡ es → StoredAll w o g ds fs u F → StoredAll w o g es fs u F
 stored-for w u o g ds es fs F e h = subst (λ l. StoredAll w o g l fs u F) e h
+
+-- a well formed name has a small number
+small : (n : Name) → good_name n ≡ true → small_number n ≡ true
+small n h = (and_parts _ _ (and_parts _ _ h).1).1
+
+all-small : (ns : List Name) → every good_name ns ≡ true → every small_number ns ≡ true
+all-small [] h = refl
+all-small (n ∷ ns) h =
+    let p = and_parts (good_name n) (every good_name ns) h in
+    and_from _ _ (small n p.0) (all-small ns p.1)
+
+numbers-brought : (v : View) (k : ℕ) (ts : List Plan) (n : NewNode) → well_named n ≡ true → small_numbers (tree_over v k ts n) ≡ true
+numbers-brought v k ts (Table q ns) h =
+    let p = and_parts (good_name q.now) (every good_name (parts ns.now)) h in
+    and_from _ _ (small q.now p.0) (all-small (parts ns.now) p.1)
+numbers-brought v k ts (Projection i l) h = refl
+numbers-brought v k ts (Filter i e) h = refl
+numbers-brought v k ts (Sort i ks) h = refl
+numbers-brought v k ts (Limit i s c) h = refl
+numbers-brought v k ts (Aggregate i gs us) h = refl
+numbers-brought v k ts (Join j l r cs) h = refl
+numbers-brought v k ts (SubqueryAlias i n) h = small n.now h
+numbers-brought v k ts (Union is) h = of-union (plans_in ts (input_numbers is.now))
+  where
+    of-union : (ps : List Plan) → small_numbers (union_of ps) ≡ true
+    of-union [] = refl
+    of-union (p ∷ ps) = refl
 
 -- after the names and lists: the draft is as it was
 module _ (t : Tables) (n : NewNode) (k : ℕ) (ds : List DraftField) (dr : ShownDraft t n ds) (w : View) (x : Placed) (px : PlacedAs (view_in t) k n x w) where
@@ -148,6 +176,7 @@ module _ (t : Tables) (n : NewNode) (k : ℕ) (ds : List DraftField) (dr : Shown
     pub added-facts : PlanFacts u F R
     added-facts =
         facts-push u F t.plans R new Re before is-inside (has-fields ∙ ap₂ fields_of (sym (ap (λ y. y.functions) seen)) (sym has-tree)) (se ∙ ap plan_size_of (sym has-tree))
+        (ap small_numbers has-tree ∙ numbers-brought (view_in t) (plan_count t) (trees_in t) n named)
 
     all-nodes : plan_nodes u F R ≡ nodes_of t ++ record { tree = tree_for t n; origin = plan_count t } ∷ []
     all-nodes =

@@ -51,12 +51,13 @@ StillHeld t w = record {
   sound : sound_plans w t.fields t.plans ≡ true;
   fielded : fielded w t.fields t.plans ≡ true;
   sizes : map (λ r. r.size) t.plans ≡ map plan_size_of (plan_trees w t.fields t.plans);
+  numbered : every small_numbers (plan_trees w t.fields t.plans) ≡ true;
 }
 
 pub still-held : (t : Tables) (w : View) (c : Call) (r : Result ExprId Fault) → Answered (view_in t) c r w → StillHeld t w
 still-held t w c r a =
     let k = facts-answered (view_in t) w c r t.fields t.plans a (facts-in t) in
-    record { few_fields = t.few_fields; few_plans = t.few_plans; stored = k.are-stored; sound = k.are-sound; fielded = k.are-fielded; sizes = k.have-sizes }
+    record { few_fields = t.few_fields; few_plans = t.few_plans; stored = k.are-stored; sound = k.are-sound; fielded = k.are-fielded; sizes = k.have-sizes; numbered = k.are-numbered }
 
 -- a call that makes an expression asks and costs the same of the book as of its expressions
 pub record SameCall (m : Model) (v : View) (c : Call) : Type 0 where

@@ -56,6 +56,7 @@ invariant_of-self c =
       sound = k.are-sound;
       fielded = k.are-fielded;
       sizes = k.have-sizes;
+      numbered = k.are-numbered;
     }
 
 pub returns-clause-stored : goal.returns-clause-stored
