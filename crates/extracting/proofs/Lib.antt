@@ -1,0 +1,7 @@
+mod Needs
+mod Spaces
+mod Rewritten
+mod Growing
+mod Entered
+mod Built
+mod Steps

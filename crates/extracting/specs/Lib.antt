@@ -1,0 +1,3 @@
+pub mod Owners
+pub mod Extractors
+pub mod Walking

@@ -1,0 +1,7 @@
+//! Taking Marked calls out of an expression of a book, under generated aliases.
+#![tactic(auto)]
+
+pub mod extractor;
+pub mod generated;
+pub mod inputs;
+mod rebuilding;

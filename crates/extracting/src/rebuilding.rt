@@ -1,0 +1,78 @@
+//! Expressions that are made anew of parts that a walk has made.
+ghost use Rattle.extracting.specs.Walking.{BuiltBy};
+ghost use Rattle.plan.specs.Fields.{any};
+ghost use Rattle.plan.specs.Functions.{is_total};
+ghost use Rattle.plan.specs.Model.{expr_in, exprs_in, space};
+ghost use Rattle.plan.specs.Rendering.{unqualified_field};
+ghost use Rattle.plan.specs.Terms.Expr.{alias as alias_tree, call as call_tree, reference as reference_tree};
+ghost use Rattle.plan.specs.Terms.{arguments, size_of, sizes_of};
+ghost use Rattle.rewriting.specs.Generated.{countable, generated};
+ghost use Rattle.rewriting.specs.Outlay.{tree_space};
+ghost use Rattle.std.specs.Prelude.{◌≡◌, ◌<◌, ◌≤◌, true, false, length, IfOk};
+ghost use Rattle.tables.specs.Begun.{TablesBegin};
+ghost use Rattle.tables.specs.Holding.{view_in};
+ghost use Rattle.terms.specs.Spans.{stored_field, stored_in};
+ghost use Rattle.terms.specs.Views.{numbers_of};
+ghost use Rattle.plan.specs.Calls.{all_below};
+
+use crate::generated::generated;
+use plan::fault::Fault;
+use tables::tables::Tables;
+use terms::node::{ExprId, StoredField};
+
+/// A reference to the alias of a number.
+pub(crate) fn alias_column(tables: &mut Tables, alias: u32) -> Result<ExprId, Fault>
+    requires { countable alias ≡ true }
+    ensures answer { BuiltBy tables.old (tree_space (reference_tree (unqualified_field (generated alias)))) (reference_tree (unqualified_field (generated alias))) result tables.new }
+    ensures last { IfOk result (λ r. r.0 ≡ length (view_in tables.old).trees) }
+    ensures begins { TablesBegin tables.old tables.new }
+{
+    tables.reference(&generated(alias), None)
+}
+
+/// The alias `e` of `inner`, with `made` in its place; `e` itself where that is the same.
+pub(crate) fn realias(
+    tables: &mut Tables,
+    e: ExprId,
+    inner: ExprId,
+    field: StoredField,
+    made: ExprId,
+) -> Result<ExprId, Fault>
+    requires present { e.0 < length (view_in tables.old).trees }
+    requires made { made.0 < length (view_in tables.old).trees }
+    requires stored { stored_in (view_in tables.old).bytes field ≡ true }
+    requires tree { expr_in (view_in tables.old).trees e.0 ≡ alias_tree (expr_in (view_in tables.old).trees inner.0) (stored_field (view_in tables.old).bytes field) }
+    requires small { size_of (expr_in (view_in tables.old).trees made.0) ≤ size_of (expr_in (view_in tables.old).trees inner.0) }
+    ensures answer { BuiltBy tables.old (space 1 0 0 0 0) (alias_tree (expr_in (view_in tables.old).trees made.0) (stored_field (view_in tables.old).bytes field)) result tables.new }
+    ensures begins { TablesBegin tables.old tables.new }
+{
+    if made.0 == inner.0 {
+        return Ok(e);
+    }
+    tables.alias_as(made, field)
+}
+
+/// The call `e` of a function with the arguments `given`, with `made` in their place; `e` itself where they are the same.
+pub(crate) fn recall(
+    tables: &mut Tables,
+    e: ExprId,
+    function: u8,
+    given: &[ExprId],
+    made: &[ExprId],
+    same: bool,
+) -> Result<ExprId, Fault>
+    requires present { e.0 < length (view_in tables.old).trees }
+    requires made { all_below (length (view_in tables.old).trees) (numbers_of made.now) ≡ true }
+    requires tree { expr_in (view_in tables.old).trees e.0 ≡ call_tree function (arguments (exprs_in (view_in tables.old).trees (numbers_of given.now))) }
+    requires count { length made.now ≡ length given.now }
+    requires small { sizes_of (arguments (exprs_in (view_in tables.old).trees (numbers_of made.now))) ≤ sizes_of (arguments (exprs_in (view_in tables.old).trees (numbers_of given.now))) }
+    requires totals { any (is_total (view_in tables.old).functions) (exprs_in (view_in tables.old).trees (numbers_of made.now)) ≡ false }
+    requires same { same ≡ true → numbers_of made.now ≡ numbers_of given.now }
+    ensures answer { BuiltBy tables.old (space 1 0 (length made.now) 0 0) (call_tree function (arguments (exprs_in (view_in tables.old).trees (numbers_of made.now)))) result tables.new }
+    ensures begins { TablesBegin tables.old tables.new }
+{
+    if same {
+        return Ok(e);
+    }
+    tables.call(function, made)
+}
