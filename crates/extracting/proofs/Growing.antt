@@ -16,7 +16,7 @@ use Rattle.routing.specs.Sides.{side_of}
 use Rattle.tables.specs.Holding.{model_of, nodes_of, view_in}
 use Rattle.tables.specs.Reusing.{Added}
 use Rattle.tables.specs.declared.tables.Tables.{Tables}
-use Rattle.terms.specs.Spans.{stored_field, stored_in}
+use Rattle.entries.specs.Spans.{stored_field, stored_in}
 use Rattle.terms.specs.Views.{View}
 use Rattle.terms.proofs.Frames.{field-grow}
 use Rattle.extracting.specs.Extractors.{Inside, entry_in, entry_of, extractor_of, need_in, need_of}

@@ -18,7 +18,7 @@ use Rattle.tables.specs.Begun.{TablesBegin}
 use Rattle.tables.specs.Holding.{model_of, view_in}
 use Rattle.tables.specs.declared.tables.Tables.{Tables}
 use Rattle.terms.specs.Views.{numbers_of}
-use Rattle.terms.specs.declared.node.ExprId.{ExprId}
+use Rattle.entries.specs.declared.node.ExprId.{ExprId}
 use Rattle.terms.proofs.Trees.{picked_same}
 use Rattle.extracting.specs.Extractors.{Inside, extractor_of}
 use Rattle.extracting.specs.Walking.{Answered, Built, BuiltBy, Grows, NoNumber, NoRoom, Walked}

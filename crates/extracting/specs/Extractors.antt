@@ -11,7 +11,7 @@ use Rattle.rewriting.specs.Generated.{countable, generated}
 use Rattle.rewriting.specs.Routing
 use Rattle.rewriting.specs.Routing.{Entry, Side, needs}
 use Rattle.routing.specs.Sides.{side_of}
-use Rattle.terms.specs.Spans.{stored_field, stored_in}
+use Rattle.entries.specs.Spans.{stored_field, stored_in}
 use Rattle.terms.specs.Views.{View}
 use Rattle.extracting.specs.declared.extractor.Extracted.{Extracted}
 use Rattle.extracting.specs.declared.extractor.Extractor.{Extractor}

@@ -19,7 +19,7 @@ use Rattle.rewriting.specs.Routing
 use Rattle.rewriting.specs.Routing.{routing_extract}
 use Rattle.tables.specs.Holding.{model_of, nodes_of, view_in}
 use Rattle.tables.specs.declared.tables.Tables.{Tables}
-use Rattle.terms.specs.declared.node.ExprId.{ExprId}
+use Rattle.entries.specs.declared.node.ExprId.{ExprId}
 use Rattle.extracting.specs.Extractors.{Inside, extractor_of}
 use Rattle.extracting.specs.Owners.{owner_by}
 use Rattle.extracting.specs.declared.extractor.Extractor.{Extractor}

@@ -3,7 +3,7 @@ ghost use Rattle.std.specs.Prelude.{◌≤◌, length};
 
 use routing::owning::Side;
 use table::table::Table;
-use terms::node::{ExprId, StoredField};
+use entries::node::{ExprId, StoredField};
 
 mod entering;
 mod needing;

@@ -7,7 +7,7 @@ ghost use Rattle.tables.specs.Holding.{nodes_of, plan_count, view_in};
 
 use routing::owning::{Side, find_owning_input, find_sole_input};
 use tables::tables::Tables;
-use terms::node::{ExprId, PlanId};
+use entries::node::{ExprId, PlanId};
 
 /// The one input of a node, or its two.
 #[derive(Clone, Copy)]

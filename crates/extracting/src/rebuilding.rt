@@ -11,14 +11,14 @@ ghost use Rattle.rewriting.specs.Outlay.{tree_space};
 ghost use Rattle.std.specs.Prelude.{◌≡◌, ◌<◌, ◌≤◌, true, false, length, IfOk};
 ghost use Rattle.tables.specs.Begun.{TablesBegin};
 ghost use Rattle.tables.specs.Holding.{view_in};
-ghost use Rattle.terms.specs.Spans.{stored_field, stored_in};
+ghost use Rattle.entries.specs.Spans.{stored_field, stored_in};
 ghost use Rattle.terms.specs.Views.{numbers_of};
 ghost use Rattle.plan.specs.Calls.{all_below};
 
 use crate::generated::generated;
 use plan::fault::Fault;
 use tables::tables::Tables;
-use terms::node::{ExprId, StoredField};
+use entries::node::{ExprId, StoredField};
 
 /// A reference to the alias of a number.
 pub(crate) fn alias_column(tables: &mut Tables, alias: u32) -> Result<ExprId, Fault>

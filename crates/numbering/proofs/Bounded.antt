@@ -37,8 +37,8 @@ use Rattle.tables.specs.declared.node.PlanNode.{PlanNode}
 use Rattle.tables.specs.declared.node.PlanNode.TheVariants.{Aggregate, Filter, Join, Limit, Projection, Sort, SubqueryAlias, Table, Union}
 use Rattle.tables.specs.declared.node.PlanRecord.{PlanRecord}
 use Rattle.terms.specs.Views.{View}
-use Rattle.terms.specs.declared.node.Run.{Run}
-use Rattle.terms.specs.declared.node.StoredField.{StoredField}
+use Rattle.entries.specs.declared.node.Run.{Run}
+use Rattle.entries.specs.declared.node.StoredField.{StoredField}
 
 -- names without a number
 no-number : (b d : Bool) (n : ℕ) → cond (b && (false && d)) n 0 ≡ 0

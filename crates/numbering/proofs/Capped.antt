@@ -23,12 +23,12 @@ use Rattle.tables.specs.declared.node.PlanNode.TheVariants.{Aggregate, Filter, J
 use Rattle.tables.specs.declared.tables.Tables.{Tables}
 use Rattle.tables.proofs.PlanFacts.{get_or-mapped}
 use Rattle.lexicon.specs.Lexicon.{text_of}
-use Rattle.terms.specs.Spans.{literal_at, qualifier_at, stored_field}
+use Rattle.entries.specs.Spans.{literal_at, qualifier_at, stored_field}
 use Rattle.terms.specs.Views.{View}
-use Rattle.terms.specs.declared.node.Literal.{Literal}
-use Rattle.terms.specs.declared.node.Literal.TheVariants.{Null, Real, Text, Truth, Whole}
-use Rattle.terms.specs.declared.node.PlanId.{PlanId}
-use Rattle.terms.specs.declared.node.StoredField.{StoredField}
+use Rattle.entries.specs.declared.node.Literal.{Literal}
+use Rattle.entries.specs.declared.node.Literal.TheVariants.{Null, Real, Text, Truth, Whole}
+use Rattle.entries.specs.declared.node.PlanId.{PlanId}
+use Rattle.entries.specs.declared.node.StoredField.{StoredField}
 
 pub capped-none : 0 ≡ capped []
 capped-none = omega (arith, highest-none)

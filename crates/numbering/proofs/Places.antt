@@ -19,15 +19,15 @@ use Rattle.tables.specs.declared.node.PlanNode.{PlanNode}
 use Rattle.tables.specs.declared.node.PlanNode.TheVariants.{Aggregate, Filter, Join, Limit, Projection, Sort, SubqueryAlias, Table, Union}
 use Rattle.tables.specs.declared.node.PlanRecord.{PlanRecord}
 use Rattle.terms.specs.Build.{build_node, build, numbers_in, trees}
-use Rattle.terms.specs.Spans.{stored_field}
+use Rattle.entries.specs.Spans.{stored_field}
 use Rattle.terms.specs.Views.{View}
-use Rattle.terms.specs.declared.node.Entry.{Entry}
-use Rattle.terms.specs.declared.node.ExprNode.{ExprNode}
-use Rattle.terms.specs.declared.node.ExprNode.TheVariants.{Alias, Call, Constant, Reference}
-use Rattle.terms.specs.declared.node.ExprRecord.{ExprRecord}
-use Rattle.terms.specs.declared.node.Run.{Run}
-use Rattle.terms.specs.declared.node.StoredField.{StoredField}
-use Rattle.terms.specs.Entries.{entry_number}
+use Rattle.entries.specs.declared.node.Entry.{Entry}
+use Rattle.entries.specs.declared.node.ExprNode.{ExprNode}
+use Rattle.entries.specs.declared.node.ExprNode.TheVariants.{Alias, Call, Constant, Reference}
+use Rattle.entries.specs.declared.node.ExprRecord.{ExprRecord}
+use Rattle.entries.specs.declared.node.Run.{Run}
+use Rattle.entries.specs.declared.node.StoredField.{StoredField}
+use Rattle.entries.specs.Entries.{entry_number}
 
 -- expressions
 pub of-list : (es : List Expr) → list_names es ≡ flat_map expr_names es

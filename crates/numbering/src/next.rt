@@ -6,13 +6,13 @@ ghost use Rattle.rewriting.specs.Generated.{field_names, literal_names, next_num
 ghost use Rattle.std.specs.List.{flat_map};
 ghost use Rattle.std.specs.Prelude.{◌≡◌, ◌+◌, ◌<◌, ◌≤◌, true, map};
 ghost use Rattle.tables.specs.Holding.{model_of, nodes_of, plan_count, tree_in, view_in};
-ghost use Rattle.terms.specs.Spans.{literal_at, literal_in, stored_field, stored_in};
+ghost use Rattle.entries.specs.Spans.{literal_at, literal_in, stored_field, stored_in};
 ghost use Rattle.terms.specs.Views.{count, tree_of, view_of};
 
 use names::number_of;
 use tables::node::PlanNode;
 use tables::tables::Tables;
-use terms::node::{ExprId, ExprNode, Literal, PlanId, StoredField};
+use entries::node::{ExprId, ExprNode, Literal, PlanId, StoredField};
 use terms::terms::Terms;
 
 /// Generated aliases have a number above this one.

@@ -10,7 +10,7 @@ ghost use Rattle.terms.specs.Views.{count, tree_of, view_of};
 use super::{Extracted, Extractor};
 use routing::owning::Side;
 use routing::same::same_expr;
-use terms::node::ExprId;
+use entries::node::ExprId;
 use terms::terms::Terms;
 
 impl Extractor {

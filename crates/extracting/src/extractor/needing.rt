@@ -5,14 +5,14 @@ ghost use Rattle.plan.specs.Terms.{references_of, same_field};
 ghost use Rattle.rewriting.specs.Routing.{need, needs, noted, same_side};
 ghost use Rattle.routing.specs.Sides.{side_of};
 ghost use Rattle.std.specs.Prelude.{◌≡◌, ◌<◌, ◌≤◌, true, ◌&&◌, [], ◌∷◌, length, option_map};
-ghost use Rattle.terms.specs.Spans.{stored_field, stored_in};
+ghost use Rattle.entries.specs.Spans.{stored_field, stored_in};
 ghost use Rattle.terms.specs.Views.{count, tree_of, view_of};
 
 use super::{Extractor, Needed};
 use naming::resolving::same_field;
 use routing::owning::Side;
-use terms::listed::Listed;
-use terms::node::{ExprId, ExprNode, StoredField};
+use entries::listed::Listed;
+use entries::node::{ExprId, ExprNode, StoredField};
 use terms::terms::Terms;
 
 /// Whether two inputs are the same one.

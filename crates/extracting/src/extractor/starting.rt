@@ -7,7 +7,7 @@ ghost use Rattle.terms.specs.Views.{View};
 use super::{Extracted, Extractor, Needed};
 use routing::owning::Side;
 use table::table::Table;
-use terms::node::{ExprId, Span, StoredField};
+use entries::node::{ExprId, Span, StoredField};
 
 impl Extractor {
     /// Nothing found yet; the first alias takes the number `next`.

@@ -16,7 +16,7 @@ use crate::rebuilding::alias_column;
 use plan::fault::{Fault, Question, Stage};
 use routing::owning::Side;
 use tables::tables::Tables;
-use terms::node::ExprId;
+use entries::node::ExprId;
 
 /// Whether an alias may have a number.
 #[tactic(auto, unfolding(rewriting::specs::Generated::countable))]

@@ -7,7 +7,7 @@ use Rattle.plan.specs.Terms.Expr.{alias}
 use Rattle.plan.specs.Terms.{Expr, Field, size_of}
 use Rattle.plan.specs.Functions.{Functions}
 use Rattle.terms.specs.Acceptance.{acceptable}
-use Rattle.terms.specs.Spans.{stored_field}
+use Rattle.entries.specs.Spans.{stored_field}
 use Rattle.tables.specs.Holding.{view_in}
 use Rattle.lexicon.proofs.Frames.{every-at}
 use Rattle.extracting.proofs.Built.{reused-built}

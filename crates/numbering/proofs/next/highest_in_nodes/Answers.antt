@@ -3,7 +3,7 @@ use Rattle.lexicon.specs.Lexicon.{text_of}
 use Rattle.numbering.specs.Own.{capped, names_in}
 use Rattle.numbering.proofs.Capped.{capped-none, node-turn, tree-of-node}
 use Rattle.tables.specs.Holding.{nodes_of, tree_in, view_in}
-use Rattle.terms.specs.Spans.{stored_field}
+use Rattle.entries.specs.Spans.{stored_field}
 use Rattle.numbering.proofs.next.highest_in_nodes.Goals as goal
 
 pub loop-i-init : goal.loop-i-init

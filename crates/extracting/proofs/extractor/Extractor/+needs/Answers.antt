@@ -3,10 +3,10 @@ use Rattle.plan.specs.Model.{no_expr}
 use Rattle.plan.specs.Terms.{arguments, references_of, references_of_all}
 use Rattle.rewriting.specs.Routing.{needs}
 use Rattle.routing.specs.Sides.{side_of}
-use Rattle.terms.specs.Spans.{stored_field}
+use Rattle.entries.specs.Spans.{stored_field}
 use Rattle.terms.specs.Views.{tree_of, view_of}
-use Rattle.terms.specs.declared.node.Entry.{Entry}
-use Rattle.terms.specs.declared.node.Entry.TheVariants.{Expression}
+use Rattle.entries.specs.declared.node.Entry.{Entry}
+use Rattle.entries.specs.declared.node.Entry.TheVariants.{Expression}
 use Rattle.terms.proofs.Walks.{argument, call-of, entry_trees, long, lower}
 use Rattle.extracting.specs.Extractors.{needs_of}
 use Rattle.extracting.proofs.Needs.{needing_is, needs-nil, needs-one, needs-turn, needs_end}

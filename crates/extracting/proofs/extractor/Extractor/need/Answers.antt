@@ -2,7 +2,7 @@ use Rattle.std.proofs.Common.{◌≡◌, ◌+◌, ◌<◌, false, [], ◌∷◌,
 use Rattle.std.proofs.lemmas.List.{length-map, length_push, map_push}
 use Rattle.rewriting.specs.Routing.{needs}
 use Rattle.routing.specs.Sides.{side_of}
-use Rattle.terms.specs.Spans.{stored_field}
+use Rattle.entries.specs.Spans.{stored_field}
 use Rattle.terms.specs.Views.{view_of}
 use Rattle.extracting.specs.Extractors.{entries_of, need_of, needs_of}
 use Rattle.extracting.specs.declared.extractor.Needed.{Needed}

@@ -6,7 +6,7 @@ use Rattle.plan.specs.Fields.{any, every}
 use Rattle.plan.specs.Terms.{Field, same_field}
 use Rattle.rewriting.specs.Routing.{Side, same_side}
 use Rattle.routing.specs.Sides.{side_of}
-use Rattle.terms.specs.Spans.{stored_field}
+use Rattle.entries.specs.Spans.{stored_field}
 use Rattle.terms.specs.Views.{view_of}
 use Rattle.lexicon.proofs.Frames.{every-at}
 use Rattle.terms.proofs.Walks.{any-mapped}

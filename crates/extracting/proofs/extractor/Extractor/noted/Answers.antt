@@ -1,6 +1,6 @@
 use Rattle.std.proofs.Common.{length, sym, ap, ◌∙◌, arith}
 use Rattle.routing.specs.Sides.{side_of}
-use Rattle.terms.specs.Spans.{stored_field}
+use Rattle.entries.specs.Spans.{stored_field}
 use Rattle.terms.specs.Views.{view_of}
 use Rattle.extracting.specs.Extractors.{extractor_of, needs_of}
 use Rattle.extracting.proofs.Needs.{needs-one, noted_none, noted_some}
