@@ -15,7 +15,7 @@ use Rattle.numbering.proofs.Highest.{at-below, both-below, built-below, first-be
 use Rattle.plan.specs.Calls.{good_alias, good_field, good_qualifier, union_of}
 use Rattle.plan.specs.Fields.{every}
 use Rattle.plan.specs.Functions.{Functions, function_at, name_in}
-use Rattle.plan.specs.Model.{exprs_in, no_expr, no_node, no_plan, plan_in, plans_in}
+use Rattle.plan.specs.Model.{exprs_in, no_expr, no_node, no_plan, plan_in, plans_in, Node}
 use Rattle.plan.specs.Names.{Name, digit, digits, good_name, most_number, number_of, prefix, read_on}
 use Rattle.plan.specs.Plans.{Plan, fields_of, kept_if, qualified_by, shown, shows_left, shows_right, without_qualifier}
 use Rattle.plan.specs.Plans.Plan.{aggregate, filter, join, limit, projection, sort, subquery_alias, table, union}
@@ -24,13 +24,11 @@ use Rattle.plan.specs.Terms.{Expr, Field, Literal, Qualifier}
 use Rattle.plan.specs.Terms.Expr.{alias, call, literal, reference}
 use Rattle.plan.specs.Terms.Literal.{null, real, text, truth, whole}
 use Rattle.plan.specs.Terms.Qualifier.{qualified, unqualified}
-use Rattle.rewriting.specs.Generated.{field_names, highest, literal_names, qualifier_names}
+use Rattle.rewriting.specs.Generated.{field_names, highest, literal_names, qualifier_names, expr_names, list_names, node_names, plan_names}
 use Rattle.terms.specs.Acceptance.{acceptable}
 use Rattle.names.specs.Spans.{word}
 use Rattle.numbering.proofs.Places.{columns-named, empty-name, of-list, of-nodes, plan-step, plan_own}
-use Rattle.plan.specs.Model.{Node}
 use Rattle.plan.specs.declared.code.JoinKind.{JoinKind}
-use Rattle.rewriting.specs.Generated.{expr_names, list_names, node_names, plan_names}
 use Rattle.std.proofs.lemmas.List.Folds.{flat_map-map}
 use Rattle.tables.specs.Stored.{build_plan, build_plan_node, fields_in, node_trees, plan_nodes, plan_trees, run_exprs, run_numbers, small_number, small_numbers}
 use Rattle.tables.specs.declared.node.PlanNode.{PlanNode}
