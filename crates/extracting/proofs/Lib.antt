@@ -5,3 +5,5 @@ mod Growing
 mod Entered
 mod Built
 mod Steps
+mod Cases
+mod Turns

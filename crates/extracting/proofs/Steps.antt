@@ -67,7 +67,7 @@ pub record Partly (t u : Tables) (x : Extractor) (whole : List Expr × Routing.E
   pub begins : TablesBegin t u
   pub unchanged : same ≡ true → numbers_of made ≡ numbers_of (take i given)
 
-below-more : (n m : ℕ) (ns : List ℕ) → n ≤ m → all_below n ns ≡ true → all_below m ns ≡ true
+pub below-more : (n m : ℕ) (ns : List ℕ) → n ≤ m → all_below n ns ≡ true → all_below m ns ≡ true
 below-more n m [] le h = refl
 below-more n m (k ∷ ns) le h =
     let p = and_parts (below n k) (all_below n ns) h in
@@ -99,7 +99,7 @@ module _ (F : Functions) (own : Expr → Option Side) (t u u' : Tables) (x x' : 
       inl (h.0, ap (fits (model_of t).used) e ∙ no-room (model_of t).used (list_space done) (model_of u).used (tree_space here.0) _ k.spent (part_space n done later.0 here.0) h.1)
   call-refused n d (inr h) = inr (h.0, ap (λ (r : List Expr × Routing.Extractor). r.1.full) all_are ∙ all-full F own (drop (i + 1) ts) here.1 h.1)
 
-  module _ (part : ExprId) (a : Walked u here part.0 u' x') (made' : List ExprId) (pushed : made' ≡ made ++ part ∷ []) (begins : TablesBegin u u') (same' : Bool) (unchanged : same' ≡ true → (same ≡ true) × (part.0 ≡ (get_or given i part).0)) (few-given : i < length given) where
+  module _ (part : ExprId) (a : Walked u here part.0 u' x') (made' : List ExprId) (pushed : made' ≡ made ++ part ∷ []) (begins : TablesBegin u u') (same' : Bool) (d : ExprId) (unchanged : same' ≡ true → (same ≡ true) × (part.0 ≡ (get_or given i d).0)) (few-given : i < length given) where
     numbers : numbers_of made' ≡ numbers_of made ++ part.0 ∷ []
     numbers = ap numbers_of pushed ∙ map_push (λ e. e.0) made part
 
@@ -122,7 +122,7 @@ module _ (F : Functions) (own : Expr → Option Side) (t u u' : Tables) (x x' : 
       grows = grows-then (model_of t) (model_of u) (model_of u') k.grows a.grows;
       spent = subst (λ s. Within (model_of t).used s (model_of u').used) (sym (ap list_space trees-are ∙ listed-push done here.0)) (within-then _ _ _ _ _ k.spent a.spent);
       begins = tables-then t u u' k.begins begins;
-      unchanged = λ h. let q = unchanged h in numbers ∙ ap₂ (λ l n. l ++ n ∷ []) (k.unchanged q.0) q.1 ∙ sym (ap numbers_of (take_more given i part few-given) ∙ map_push (λ e. e.0) (take i given) (get_or given i part));
+      unchanged = λ h. let q = unchanged h in numbers ∙ ap₂ (λ l n. l ++ n ∷ []) (k.unchanged q.0) q.1 ∙ sym (ap numbers_of (take_more given i d few-given) ∙ map_push (λ e. e.0) (take i given) (get_or given i d));
     }
       where
         below-push : (n : ℕ) (ns : List ℕ) (m : ℕ) → all_below n ns ≡ true → m < n → all_below n (ns ++ m ∷ []) ≡ true

@@ -5,3 +5,4 @@ pub mod extractor;
 pub mod generated;
 pub mod inputs;
 mod rebuilding;
+pub mod walking;

@@ -1,0 +1,159 @@
+-- What the walk reads of a node, where m are the expressions of the tables t; and what the walk comes to there.
+use Rattle.std.proofs.Common.{◌≡◌, ℕ, ◌+◌, ◌<◌, ◌≤◌, Bool, true, false, not, ◌&&◌, cond, ltb, leb, List, [], ◌∷◌, length, get_or, Some, None, Option, sym, refl, ap, ap₂, ◌∙◌, subst, arith}
+use Rattle.std.proofs.lemmas.Bool.{and_parts, ltb-true}
+use Rattle.std.proofs.lemmas.List.{get_or-map, length-map}
+use Rattle.names.specs.Spans.{word}
+use Rattle.plan.specs.Calls.{all_below, arity_is}
+use Rattle.plan.specs.Fields.{any, every}
+use Rattle.plan.specs.Functions.{Functions, function_at, is_marked, is_total, placement_of}
+use Rattle.plan.specs.Model.{expr_in, exprs_in, no_expr}
+use Rattle.plan.specs.Names.{prefixed}
+use Rattle.plan.specs.Questions.{small_tree}
+use Rattle.plan.specs.Terms.{Expr, Exprs, arguments, listed}
+use Rattle.plan.specs.Terms.Expr.{alias, call, literal, reference}
+use Rattle.rewriting.specs.Routing
+use Rattle.rewriting.specs.Routing.{Side, add_extracted, entered, noted, routing_extract, routing_extract_all}
+use Rattle.lexicon.proofs.Frames.{every-at}
+use Rattle.tables.specs.Holding.{model_of, nodes_of, view_in}
+use Rattle.tables.specs.declared.tables.Tables.{Tables}
+use Rattle.terms.specs.Acceptance.{acceptable, all_acceptable}
+use Rattle.terms.specs.Build.{inside_node, numbers_in}
+use Rattle.terms.specs.Spans.{literal_at, stored_field, stored_in}
+use Rattle.terms.specs.Views.{numbers_of, tree_for, tree_of, view_of}
+use Rattle.terms.specs.declared.node.ExprId.{ExprId}
+use Rattle.terms.specs.declared.node.ExprNode.{ExprNode}
+use Rattle.terms.specs.declared.node.ExprNode.TheVariants.{Alias, Call, Constant, Reference}
+use Rattle.terms.specs.declared.node.Literal.{Literal}
+use Rattle.terms.specs.declared.node.Run.{Run}
+use Rattle.terms.specs.declared.node.StoredField.{StoredField}
+use Rattle.terms.specs.declared.terms.Terms.{Terms}
+use Rattle.terms.proofs.Frames.{field-grow}
+use Rattle.terms.proofs.Walks.{counted, few, item_below, listed-arguments}
+use Rattle.extracting.specs.Extractors.{Inside, extractor_of}
+use Rattle.extracting.specs.Owners.{inputs_in, owner_by}
+use Rattle.extracting.specs.Walking.{Grows, Walked, walk_in}
+use Rattle.extracting.specs.declared.extractor.Extractor.{Extractor}
+use Rattle.extracting.specs.declared.inputs.Inputs.{Inputs}
+use Rattle.extracting.proofs.Growing.{grows-at-once, longer, owner-stays, tree-stays}
+use Rattle.extracting.proofs.Rewritten.{walk-alias, walk-call, walk-literal, walk-prefixed, walk-reference, walk-taken}
+use Rattle.extracting.proofs.Spaces.{within-same}
+
+module _ (t : Tables) (m : Terms) (same : m ≡ t.terms) (e : ℕ) (n : ExprNode) (tree : tree_of m e ≡ tree_for m n) (inside : inside_node (view_of m).bytes (view_of m).entries e n ≡ true) where
+  pub tree-here : expr_in (view_in t).trees e ≡ tree_for t.terms n
+  tree-here = subst (λ k. tree_of k e ≡ tree_for k n) same tree
+
+  pub inside-here : inside_node (view_in t).bytes (view_in t).entries e n ≡ true
+  inside-here = subst (λ k. inside_node (view_of k).bytes (view_of k).entries e n ≡ true) same inside
+
+-- an alias
+module _ (t : Tables) (e : ℕ) (inner : ExprId) (field : StoredField) (inside : inside_node (view_in t).bytes (view_in t).entries e (Alias inner field) ≡ true) where
+  pub inner-lower : inner.0 < e
+  inner-lower = ltb-true _ _ (and_parts (ltb inner.0 e) (stored_in (view_in t).bytes field) inside).0
+
+  pub name-stored : stored_in (view_in t).bytes field ≡ true
+  name-stored = (and_parts (ltb inner.0 e) (stored_in (view_in t).bytes field) inside).1
+
+pub field-stays : (t u : Tables) (g : Grows (model_of t) (model_of u)) (f : StoredField) → stored_in (view_in t).bytes f ≡ true → (stored_field (view_in u).bytes f ≡ stored_field (view_in t).bytes f) × (stored_in (view_in u).bytes f ≡ true)
+field-stays t u g f h =
+    let k = field-grow (view_in t).bytes g.text.more f h in
+    (ap (λ b. stored_field b f) g.text.is ∙ k.0, ap (λ b. stored_in b f) g.text.is ∙ k.1)
+
+-- the walk over other tables that begin with these
+pub walk-same : (t u : Tables) (g : Grows (model_of t) (model_of u)) (is : Inputs) (d : Expr) (h : Routing.Extractor) → walk_in u is d h ≡ routing_extract (view_in t).functions (owner_by (view_in t).functions (nodes_of t) is) d h
+walk-same t u g is d h = ap₂ (λ F own. routing_extract F own d h) g.functions (owner-stays t u g is)
+
+pub inputs-stay : (t u : Tables) (g : Grows (model_of t) (model_of u)) (is : Inputs) → inputs_in (length (nodes_of t)) is ≡ true → inputs_in (length (nodes_of u)) is ≡ true
+inputs-stay t u g is h = ap (λ ns. inputs_in (length ns) is) g.plans ∙ h
+
+module _ (t : Tables) (is : Inputs) (e : ℕ) (x : Extractor) where
+  abbrev F : Functions
+  F = (view_in t).functions
+
+  abbrev own : Expr → Option Side
+  own = owner_by F (nodes_of t) is
+
+  abbrev here : Expr
+  here = expr_in (view_in t).trees e
+
+  abbrev g : Routing.Extractor
+  g = extractor_of (view_in t) x
+
+  -- the expression is given back, and the extractor is as it was
+  pub kept : walk_in t is here g ≡ (here, g) → e < length (view_in t).trees → Inside (view_in t) x → length x.entries ≤ length (view_in t).trees → Walked t (walk_in t is here g) e t x
+  kept h present inside few = record {
+    present = present;
+    tree = sym (ap (λ (w : Expr × Routing.Extractor). w.0) h);
+    extractor = sym (ap (λ (w : Expr × Routing.Extractor). w.1) h);
+    inside = inside;
+    few = few;
+    grows = grows-at-once (model_of t);
+    spent = within-same (model_of t).used _;
+  }
+
+  pub at-constant : (l : Literal) → here ≡ tree_for t.terms (Constant l) → walk_in t is here g ≡ (here, g)
+  at-constant l h = ap (λ d. walk_in t is d g) h ∙ walk-literal F own (literal_at (view_in t).bytes l) g ∙ ap (λ d. (d, g)) (sym h)
+
+  pub at-reference : (f : StoredField) (o : Option Side) → here ≡ tree_for t.terms (Reference f) → o ≡ own here → walk_in t is here g ≡ (here, noted o (stored_field (view_in t).bytes f) g)
+  at-reference f o h k =
+      let r = stored_field (view_in t).bytes f in
+      ap (λ d. walk_in t is d g) h ∙ walk-reference F own r g ∙ ap₂ (λ d p. (d, noted p r g)) (sym h) (ap own (sym h) ∙ sym k)
+
+  module _ (inner : ExprId) (f : StoredField) (h : here ≡ tree_for t.terms (Alias inner f)) where
+    pub at-prefixed : prefixed (stored_field (view_in t).bytes f).name ≡ true → walk_in t is here g ≡ (here, g)
+    at-prefixed k = ap (λ d. walk_in t is d g) h ∙ walk-prefixed F own (expr_in (view_in t).trees inner.0) (stored_field (view_in t).bytes f) g k ∙ ap (λ d. (d, g)) (sym h)
+
+    pub at-alias : prefixed (stored_field (view_in t).bytes f).name ≡ false
+        → walk_in t is here g ≡ (alias (walk_in t is (expr_in (view_in t).trees inner.0) g).0 (stored_field (view_in t).bytes f), (walk_in t is (expr_in (view_in t).trees inner.0) g).1)
+    at-alias k = ap (λ d. walk_in t is d g) h ∙ walk-alias F own (expr_in (view_in t).trees inner.0) (stored_field (view_in t).bytes f) g k
+
+  pub at-taken : (s : Side) (n : ℕ) (run : Run) → here ≡ tree_for t.terms (Call n run) → Some s ≡ cond (is_marked (placement_of F here)) (own here) None → walk_in t is here g ≡ add_extracted s here g (entered here g.entries)
+  at-taken s n run h k =
+      subst (λ d. Some s ≡ cond (is_marked (placement_of F d)) (own d) None → walk_in t is d g ≡ add_extracted s d g (entered d g.entries)) (sym h)
+      (λ j. walk-taken F own s n (arguments (exprs_in (view_in t).trees (numbers_in (view_in t).entries run.first run.count))) g j) k
+
+-- a call n of the arguments given
+module _ (t : Tables) (is : Inputs) (e n : ℕ) (run : Run) (given : List ExprId) (x : Extractor) (h : expr_in (view_in t).trees e ≡ tree_for t.terms (Call n run)) (inside : inside_node (view_in t).bytes (view_in t).entries e (Call n run) ≡ true)
+    (given-is : numbers_of given ≡ numbers_in (view_in t).entries run.first run.count) (present : e < length (view_in t).trees) where
+  abbrev ts : List Expr
+  ts = exprs_in (view_in t).trees (numbers_of given)
+
+  pub call-is : expr_in (view_in t).trees e ≡ call n (arguments ts)
+  call-is = h ∙ ap (λ ns. call n (arguments (exprs_in (view_in t).trees ns))) (sym given-is)
+
+  pub all-lower : all_below e (numbers_of given) ≡ true
+  all-lower = ap (all_below e) given-is ∙ (and_parts (leb (run.first + run.count) (length (view_in t).entries)) (all_below e (numbers_in (view_in t).entries run.first run.count)) inside).1
+
+  pub at-call : None ≡ cond (is_marked (placement_of (view_in t).functions (expr_in (view_in t).trees e))) (owner_by (view_in t).functions (nodes_of t) is (expr_in (view_in t).trees e)) None
+      → walk_in t is (expr_in (view_in t).trees e) (extractor_of (view_in t) x)
+      ≡ (call n (arguments (routing_extract_all (view_in t).functions (owner_by (view_in t).functions (nodes_of t) is) ts (extractor_of (view_in t) x)).0), (routing_extract_all (view_in t).functions (owner_by (view_in t).functions (nodes_of t) is) ts (extractor_of (view_in t) x)).1)
+  at-call k =
+      let F = (view_in t).functions in
+      let own = owner_by F (nodes_of t) is in
+      let g = extractor_of (view_in t) x in
+      ap (λ d. walk_in t is d g) call-is ∙ walk-call F own n ts g (subst (λ d. None ≡ cond (is_marked (placement_of F d)) (own d) None) call-is k)
+
+  pub no-totals : any (is_total (view_in t).functions) ts ≡ false
+  no-totals =
+      let F = (view_in t).functions in
+      let es = arguments ts in
+      let ok = sym (ap (acceptable F) call-is) ∙ every-at (acceptable F) (view_in t).trees e no_expr present t.terms.accepted in
+      let p = and_parts (all_acceptable F es) (arity_is (function_at F n) (length (listed es)) && (not (any (is_total F) (listed es)) && small_tree (call n es))) ok in
+      let q = and_parts (arity_is (function_at F n) (length (listed es))) (not (any (is_total F) (listed es)) && small_tree (call n es)) p.1 in
+      let r = (and_parts (not (any (is_total F) (listed es))) (small_tree (call n es)) q.1).0 in
+      sym (ap (any (is_total F)) (listed-arguments ts)) ∙ off (any (is_total F) (listed es)) r
+    where
+      off : (b : Bool) → not b ≡ true → b ≡ false
+      off true k = absurd (let z : ◌≡◌ {A = ℕ} 0 1 = cc in omega arith)
+      off false k = refl
+
+  module _ (i : ℕ) (d : ExprId) (lt : i < length given) where
+    pub argument-lower : (get_or given i d).0 < e
+    argument-lower = item_below (λ y. y.0) e given i d lt all-lower
+
+    pub argument-is : expr_in (view_in t).trees (get_or given i d).0 ≡ get_or ts i no_expr
+    argument-is =
+        ap (expr_in (view_in t).trees) (sym (get_or-map (λ y. y.0) given i d 0 lt))
+        ∙ sym (get_or-map (expr_in (view_in t).trees) (numbers_of given) i 0 no_expr (omega (arith, lt, length-map given (λ y. y.0))))
+
+  pub as-many : length ts ≡ length given
+  as-many = length-map (numbers_of given) (expr_in (view_in t).trees) ∙ length-map given (λ y. y.0)

@@ -1,0 +1,112 @@
+//! The walk that takes Marked calls out of an expression.
+ghost use Rattle.extracting.specs.Extractors.{Inside, extractor_of};
+ghost use Rattle.extracting.specs.Owners.{inputs_in, owner_by};
+ghost use Rattle.extracting.specs.Walking.{Answered, walk_in};
+ghost use Rattle.plan.specs.Functions.{is_marked, placement_of};
+ghost use Rattle.plan.specs.Model.{expr_in};
+ghost use Rattle.routing.specs.Sides.{side_of};
+ghost use Rattle.std.specs.Prelude.{◌≡◌, ◌+◌, ◌<◌, ◌≤◌, true, ◌&&◌, None, cond, length, nat_eq, option_map};
+ghost use Rattle.tables.specs.Begun.{TablesBegin};
+ghost use Rattle.tables.specs.Holding.{nodes_of, plan_count, view_in};
+ghost use Rattle.terms.specs.Build.{numbers_in};
+ghost use Rattle.terms.specs.Views.{numbers_of, view_of};
+
+use crate::extractor::Extractor;
+use crate::inputs::{Inputs, owning_input};
+use crate::rebuilding::{realias, recall};
+use names::is_prefixed;
+use plan::fault::Fault;
+use routing::owning::Side;
+use routing::placement::placement;
+use table::table::Table;
+use tables::tables::Tables;
+use terms::listed::Listed;
+use terms::node::{ExprId, ExprNode, Run};
+use terms::terms::Terms;
+
+/// The arguments of a call, apart from the tables.
+fn listed(terms: &Terms, run: Run) -> Table<ExprId, 4>
+    requires inside { run.first + run.count ≤ length (view_of terms.now).entries }
+    requires few { run.count ≤ 4 }
+    ensures { numbers_of result ≡ numbers_in (view_of terms.now).entries run.first run.count }
+{
+    let mut given = Table::new(ExprId(0));
+    given.push_each(terms.entries(run), ExprId::read);
+    given
+}
+
+/// The input that owns an expression, if it is Marked.
+fn taken_side(tables: &Tables, inputs: Inputs, e: ExprId) -> Option<Side>
+    requires inputs { inputs_in (plan_count tables.now) inputs ≡ true }
+    requires present { e.0 < length (view_in tables.now).trees }
+    ensures { option_map side_of result ≡ cond (is_marked (placement_of (view_in tables.now).functions (expr_in (view_in tables.now).trees e.0))) (owner_by (view_in tables.now).functions (nodes_of tables.now) inputs (expr_in (view_in tables.now).trees e.0)) None }
+{
+    if placement(tables.terms(), e).is_marked() {
+        return owning_input(tables, inputs, e);
+    }
+    None
+}
+
+/// Whether nothing changed so far, and this argument did not either.
+fn still_same(same: bool, part: ExprId, argument: ExprId) -> bool
+    ensures { result ≡ (same && nat_eq part.0 argument.0) }
+{
+    same && part.0 == argument.0
+}
+
+/// Takes out of an expression, from the root down, what is Marked and has one owner. What stands under a prefixed alias is
+/// left alone, and where nothing changed the expression is given back.
+pub fn routing_extract(
+    tables: &mut Tables,
+    inputs: Inputs,
+    e: ExprId,
+    extractor: &mut Extractor,
+) -> Result<ExprId, Fault>
+    requires inputs { inputs_in (plan_count tables.old) inputs ≡ true }
+    requires present { e.0 < length (view_in tables.old).trees }
+    requires inside { Inside (view_in tables.old) extractor.old }
+    requires few { length extractor.old.entries ≤ length (view_in tables.old).trees }
+    requires needed { length (walk_in tables.old inputs (expr_in (view_in tables.old).trees e.0) (extractor_of (view_in tables.old) extractor.old)).1.needed ≤ 256 }
+    ensures answer { Answered tables.old (walk_in tables.old inputs (expr_in (view_in tables.old).trees e.0) (extractor_of (view_in tables.old) extractor.old)) result tables.new extractor.new }
+    ensures begins { TablesBegin tables.old tables.new }
+{
+    match tables.terms().node(e) {
+        ExprNode::Constant(_) => Ok(e),
+        ExprNode::Reference(field) => {
+            let owner = owning_input(tables, inputs, e);
+            extractor.noted(tables.terms(), owner, field);
+            Ok(e)
+        }
+        ExprNode::Alias { inner, field } => {
+            if is_prefixed(tables.terms().word(field.name)) {
+                return Ok(e);
+            }
+            let made = routing_extract(tables, inputs, inner, extractor)?;
+            realias(tables, e, inner, field, made)
+        }
+        ExprNode::Call {
+            function,
+            arguments,
+        } => {
+            if let Some(side) = taken_side(tables, inputs, e) {
+                return extractor.add_extracted(tables, side, e);
+            }
+            let given = listed(tables.terms(), arguments);
+            let mut made: Table<ExprId, 4> = Table::new(e);
+            let mut same = true;
+            for argument in given.as_slice() {
+                let part = routing_extract(tables, inputs, *argument, extractor)?;
+                same = still_same(same, part, *argument);
+                made.push(part);
+            }
+            recall(
+                tables,
+                e,
+                function,
+                given.as_slice(),
+                made.as_slice(),
+                same,
+            )
+        }
+    }
+}
