@@ -18,14 +18,14 @@ use Rattle.tables.specs.Holding.{model_of, nodes_of, view_in}
 use Rattle.tables.specs.declared.tables.Tables.{Tables}
 use Rattle.terms.specs.Acceptance.{acceptable, all_acceptable}
 use Rattle.terms.specs.Build.{inside_node, numbers_in}
-use Rattle.terms.specs.Spans.{literal_at, stored_field, stored_in}
+use Rattle.entries.specs.Spans.{literal_at, stored_field, stored_in}
 use Rattle.terms.specs.Views.{numbers_of, tree_for, tree_of, view_of}
-use Rattle.terms.specs.declared.node.ExprId.{ExprId}
-use Rattle.terms.specs.declared.node.ExprNode.{ExprNode}
-use Rattle.terms.specs.declared.node.ExprNode.TheVariants.{Alias, Call, Constant, Reference}
-use Rattle.terms.specs.declared.node.Literal.{Literal}
-use Rattle.terms.specs.declared.node.Run.{Run}
-use Rattle.terms.specs.declared.node.StoredField.{StoredField}
+use Rattle.entries.specs.declared.node.ExprId.{ExprId}
+use Rattle.entries.specs.declared.node.ExprNode.{ExprNode}
+use Rattle.entries.specs.declared.node.ExprNode.TheVariants.{Alias, Call, Constant, Reference}
+use Rattle.entries.specs.declared.node.Literal.{Literal}
+use Rattle.entries.specs.declared.node.Run.{Run}
+use Rattle.entries.specs.declared.node.StoredField.{StoredField}
 use Rattle.terms.specs.declared.terms.Terms.{Terms}
 use Rattle.terms.proofs.Frames.{field-grow}
 use Rattle.terms.proofs.Walks.{counted, few, item_below, listed-arguments}

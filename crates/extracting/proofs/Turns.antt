@@ -16,9 +16,9 @@ use Rattle.tables.specs.Holding.{nodes_of, view_in}
 use Rattle.tables.specs.declared.tables.Tables.{Tables}
 use Rattle.terms.specs.Build.{inside_node, numbers_in}
 use Rattle.terms.specs.Views.{numbers_of, tree_for}
-use Rattle.terms.specs.declared.node.ExprId.{ExprId}
-use Rattle.terms.specs.declared.node.ExprNode.TheVariants.{Call}
-use Rattle.terms.specs.declared.node.Run.{Run}
+use Rattle.entries.specs.declared.node.ExprId.{ExprId}
+use Rattle.entries.specs.declared.node.ExprNode.TheVariants.{Call}
+use Rattle.entries.specs.declared.node.Run.{Run}
 use Rattle.extracting.specs.Extractors.{extractor_of}
 use Rattle.extracting.specs.Owners.{inputs_in, owner_by}
 use Rattle.extracting.specs.Walking.{Answered, BuiltBy, NoNumber, NoRoom, Walked, walk_in}

@@ -20,8 +20,8 @@ use routing::owning::Side;
 use routing::placement::placement;
 use table::table::Table;
 use tables::tables::Tables;
-use terms::listed::Listed;
-use terms::node::{ExprId, ExprNode, Run};
+use entries::listed::Listed;
+use entries::node::{ExprId, ExprNode, Run};
 use terms::terms::Terms;
 
 /// The arguments of a call, apart from the tables.

@@ -8,8 +8,8 @@ use Rattle.plan.specs.Names.{Name, good_name}
 use Rattle.plan.specs.Plans.{Plan, fields_of, plan_size_of}
 use Rattle.plan.specs.Fields.{every}
 use Rattle.plan.specs.Questions.{limited, expressions_of, shown_expressions, small_tree, short_name}
-use Rattle.plan.specs.Model.{Space, fits}
-use Rattle.plan.specs.Calls.{rendered_bytes}
+use Rattle.plan.specs.Model.{Space, fits, plans_in}
+use Rattle.plan.specs.Calls.{parts, rendered_bytes, union_of}
 use Rattle.entries.specs.Spans.{stored_field, stored_in}
 use Rattle.names.specs.Spans.{word}
 use Rattle.terms.specs.Views.{View, grown}

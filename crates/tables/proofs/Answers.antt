@@ -17,7 +17,7 @@ use Rattle.entries.specs.declared.node.StoredField.{StoredField}
 use Rattle.plan.specs.Fields.{every}
 use Rattle.plan.specs.Plans.{plan_size_of}
 use Rattle.entries.specs.Spans.{stored_in}
-use Rattle.tables.specs.Stored.{plan_nodes, plan_trees, inputs_from, sound_plans, fielded}
+use Rattle.tables.specs.Stored.{plan_nodes, plan_trees, inputs_from, sound_plans, fielded, small_numbers}
 use Rattle.tables.specs.Holding.{view_in, nodes_of, model_from, model_of}
 use Rattle.tables.specs.Answering.{answered_expr}
 use Rattle.tables.specs.declared.node.PlanRecord.{PlanRecord}

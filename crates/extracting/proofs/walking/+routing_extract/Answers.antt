@@ -12,10 +12,10 @@ use Rattle.tables.specs.Holding.{model_of, nodes_of, view_in}
 use Rattle.table.specs.Contents.{part}
 use Rattle.terms.proofs.Walks.{counted, few}
 use Rattle.terms.specs.Build.{numbers_in}
-use Rattle.terms.specs.Spans.{stored_field}
-use Rattle.terms.specs.declared.node.ExprId.{ExprId}
+use Rattle.entries.specs.Spans.{stored_field}
+use Rattle.entries.specs.declared.node.ExprId.{ExprId}
 use Rattle.terms.specs.Views.{numbers_of, view_of}
-use Rattle.terms.specs.declared.node.ExprNode.TheVariants.{Alias, Call, Constant, Reference}
+use Rattle.entries.specs.declared.node.ExprNode.TheVariants.{Alias, Call, Constant, Reference}
 use Rattle.extracting.specs.Extractors.{Inside, extractor_of}
 use Rattle.extracting.specs.Owners.{owner_by}
 use Rattle.extracting.specs.Walking.{Answered, BuiltBy, walk_in}

@@ -1,8 +1,8 @@
 use Rattle.std.proofs.Common.{◌≡◌, List, [], ◌∷◌, ◌++◌, map, refl, ap, ◌∙◌, rules}
 use Rattle.table.proofs.Pushes.{pushed-map}
-use Rattle.terms.specs.Entries.{entry_number, expr_of}
+use Rattle.entries.specs.Entries.{entry_number, expr_of}
 use Rattle.terms.specs.Views.{numbers_of}
-use Rattle.terms.specs.declared.node.Entry.{Entry}
+use Rattle.entries.specs.declared.node.Entry.{Entry}
 use Rattle.extracting.proofs.walking.listed.Goals as goal
 
 numbers_read : (xs : List Entry) → numbers_of (map expr_of xs) ≡ map entry_number xs
