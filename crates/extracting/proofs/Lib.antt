@@ -7,3 +7,4 @@ mod Built
 mod Steps
 mod Cases
 mod Turns
+mod Columned

@@ -99,14 +99,7 @@ pub fn routing_extract(
                 same = still_same(same, part, *argument);
                 made.push(part);
             }
-            recall(
-                tables,
-                e,
-                function,
-                given.as_slice(),
-                made.as_slice(),
-                same,
-            )
+            recall(tables, e, function, given.as_slice(), made.as_slice(), same)
         }
     }
 }
