@@ -8,3 +8,4 @@ mod Steps
 mod Cases
 mod Turns
 mod Columned
+mod Columning
