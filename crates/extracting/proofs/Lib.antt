@@ -7,3 +7,5 @@ mod Built
 mod Steps
 mod Cases
 mod Turns
+mod Columned
+mod Columning

@@ -42,7 +42,7 @@ pub entered_is : (v : View) (x y : Extractor) (d : Extracted) (t : Expr) (E : Li
 unfolding add_extracted
 entered_is v x y d t E N n tree alias value same entries needed next number =
     let a : map (entry_of v) E ≡ map (entry_of v) x.entries ++ (side_of d.side, t, generated x.next) ∷ [] =
-        ap (map (entry_of v)) entries ∙ map_push (entry_of v) y.entries d ∙ ap₂ (λ l e. map (entry_of v) l ++ e ∷ []) same (ap₂ (λ u k. (side_of d.side, u, generated k)) tree alias) in
+    ap (map (entry_of v)) entries ∙ map_push (entry_of v) y.entries d ∙ ap₂ (λ l e. map (entry_of v) l ++ e ∷ []) same (ap₂ (λ u k. (side_of d.side, u, generated k)) tree alias) in
     let b : map (need_of v) N ≡ needs (side_of d.side) (references_of t) (needs_of v x) = ap (map (need_of v)) needed ∙ ap (λ g. g.needed) value in
     let m : n ≡ suc x.next = omega arith in
     let f : false ≡ (false || not (countable x.next)) = sym (ap (λ k. false || not k) number) in

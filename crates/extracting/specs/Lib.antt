@@ -1,3 +1,4 @@
 pub mod Owners
 pub mod Extractors
 pub mod Walking
+pub mod Columns

@@ -1,11 +1,12 @@
 //! The walk that takes Marked calls out of an expression.
-ghost use Rattle.extracting.specs.Extractors.{Inside, extractor_of};
+ghost use Rattle.extracting.specs.Columns.{Columned, columns_by};
+ghost use Rattle.extracting.specs.Extractors.{Inside, extractor_of, needs_of};
 ghost use Rattle.extracting.specs.Owners.{inputs_in, owner_by};
 ghost use Rattle.extracting.specs.Walking.{Answered, walk_in};
 ghost use Rattle.plan.specs.Functions.{is_marked, placement_of};
 ghost use Rattle.plan.specs.Model.{expr_in};
 ghost use Rattle.routing.specs.Sides.{side_of};
-ghost use Rattle.std.specs.Prelude.{◌≡◌, ◌+◌, ◌<◌, ◌≤◌, true, ◌&&◌, None, cond, length, nat_eq, option_map};
+ghost use Rattle.std.specs.Prelude.{◌≡◌, ◌+◌, ◌<◌, ◌≤◌, true, ◌&&◌, None, cond, length, nat_eq, option_map, IfOk};
 ghost use Rattle.tables.specs.Begun.{TablesBegin};
 ghost use Rattle.tables.specs.Holding.{nodes_of, plan_count, view_in};
 ghost use Rattle.terms.specs.Build.{numbers_in};
@@ -54,9 +55,8 @@ fn still_same(same: bool, part: ExprId, argument: ExprId) -> bool
     same && part.0 == argument.0
 }
 
-/// Takes out of an expression, from the root down, what is Marked and has one owner. What stands under a prefixed alias is
-/// left alone, and where nothing changed the expression is given back.
-pub fn routing_extract(
+/// The walk through an expression, where there is room for the columns that it comes to need.
+fn walk(
     tables: &mut Tables,
     inputs: Inputs,
     e: ExprId,
@@ -81,7 +81,7 @@ pub fn routing_extract(
             if is_prefixed(tables.terms().word(field.name)) {
                 return Ok(e);
             }
-            let made = routing_extract(tables, inputs, inner, extractor)?;
+            let made = walk(tables, inputs, inner, extractor)?;
             realias(tables, e, inner, field, made)
         }
         ExprNode::Call {
@@ -95,18 +95,31 @@ pub fn routing_extract(
             let mut made: Table<ExprId, 4> = Table::new(e);
             let mut same = true;
             for argument in given.as_slice() {
-                let part = routing_extract(tables, inputs, *argument, extractor)?;
+                let part = walk(tables, inputs, *argument, extractor)?;
                 same = still_same(same, part, *argument);
                 made.push(part);
             }
-            recall(
-                tables,
-                e,
-                function,
-                given.as_slice(),
-                made.as_slice(),
-                same,
-            )
+            recall(tables, e, function, given.as_slice(), made.as_slice(), same)
         }
     }
+}
+
+/// Takes out of an expression, from the root down, what is Marked and has one owner. What stands under a prefixed alias is
+/// left alone, and where nothing changed the expression is given back.
+pub fn routing_extract(
+    tables: &mut Tables,
+    inputs: Inputs,
+    e: ExprId,
+    extractor: &mut Extractor,
+) -> Result<ExprId, Fault>
+    requires inputs { inputs_in (plan_count tables.old) inputs ≡ true }
+    requires present { e.0 < length (view_in tables.old).trees }
+    requires inside { Inside (view_in tables.old) extractor.old }
+    requires few { length extractor.old.entries ≤ length (view_in tables.old).trees }
+    requires columns { Columned (columns_by (view_in tables.old).functions (nodes_of tables.old) inputs) (needs_of (view_in tables.old) extractor.old) }
+    ensures answer { Answered tables.old (walk_in tables.old inputs (expr_in (view_in tables.old).trees e.0) (extractor_of (view_in tables.old) extractor.old)) result tables.new extractor.new }
+    ensures columns { IfOk result (λ _. Columned (columns_by (view_in tables.new).functions (nodes_of tables.new) inputs) (needs_of (view_in tables.new) extractor.new)) }
+    ensures begins { TablesBegin tables.old tables.new }
+{
+    walk(tables, inputs, e, extractor)
 }

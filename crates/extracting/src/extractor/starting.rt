@@ -1,7 +1,9 @@
 //! An extractor that has found nothing, and what others read of one.
-ghost use Rattle.extracting.specs.Extractors.{Inside, entry_of, extractor_of, need_of};
-ghost use Rattle.rewriting.specs.Routing.{empty_extractor};
-ghost use Rattle.std.specs.Prelude.{◌≡◌};
+ghost use Rattle.extracting.specs.Columns.{Columned};
+ghost use Rattle.extracting.specs.Extractors.{Inside, extractor_of, needs_of};
+ghost use Rattle.plan.specs.Terms.{Field};
+ghost use Rattle.rewriting.specs.Routing.{Side as InputSide, empty_extractor};
+ghost use Rattle.std.specs.Prelude.{◌≡◌, List};
 ghost use Rattle.terms.specs.Views.{View};
 
 use super::{Extracted, Extractor, Needed};
@@ -15,6 +17,7 @@ impl Extractor {
     pub fn starting_at(next: u32) -> Extractor
         ensures value { (v : View) → extractor_of v result ≡ empty_extractor next }
         ensures inside { (v : View) → Inside v result }
+        ensures columns { (v : View) → (cs : List (InputSide × Field)) → Columned cs (needs_of v result) }
     {
         let entry = Extracted {
             side: Side::First,

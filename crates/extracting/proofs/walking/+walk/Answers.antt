@@ -25,7 +25,7 @@ use Rattle.extracting.proofs.Rewritten.{walk-small}
 use Rattle.extracting.proofs.Spaces.{within-same}
 use Rattle.extracting.proofs.Steps.{alias-refused, alias-step}
 use Rattle.extracting.proofs.Turns.{call-here, finished, lower, made-no-total, made-same, made-small, needed, refused, turn}
-use Rattle.extracting.proofs.walking.+routing_extract.Goals as goal
+use Rattle.extracting.proofs.walking.+walk.Goals as goal
 
 abbrev first : ExprId
 first = record { 0 = 0 }
@@ -76,8 +76,8 @@ returns-then-is_prefixed-clause-answer n c =
     (at-prefixed t c.args.inputs c.args.e.0 c.args.extractor.now i f (tree-here t c.terms.result.now c.terms.ensures c.args.e.0 (Alias i f) c.in-Alias.ensures.tree c.in-Alias.ensures.inside) (sym is))
     c.requires.present c.requires.inside c.requires.few
 
-pub routing_extract-requires : goal.routing_extract-requires
-routing_extract-requires n c =
+pub walk-requires : goal.walk-requires
+walk-requires n c =
     let t = c.args.tables.now in
     let i = c.in-Alias.inner in
     let f = c.in-Alias.field in
@@ -99,9 +99,9 @@ returns-in_err-made-in-Alias-clause-answer n c =
     let d = c.in_err-made-in-Alias.field-0.0 in
     let e : c.from_residual.result ≡ Err d = search rules in
     let w = walk_in t c.args.inputs (expr_in (view_in t).trees i.0) (extractor_of (view_in t) x) in
-    let r : Answered t (alias w.0 (stored_field (view_in t).bytes f), w.1) (Err d) c.routing_extract.new.tables c.routing_extract.new.extractor = alias-refused t w (stored_field (view_in t).bytes f) d c.in_err-made-in-Alias.ensures.answer in
-    subst (λ q. Answered t (walk_in t c.args.inputs (expr_in (view_in t).trees c.args.e.0) (extractor_of (view_in t) x)) q c.routing_extract.new.tables c.routing_extract.new.extractor) (sym e)
-    (subst (λ z. Answered t z (Err d) c.routing_extract.new.tables c.routing_extract.new.extractor) (sym h) r)
+    let r : Answered t (alias w.0 (stored_field (view_in t).bytes f), w.1) (Err d) c.walk.new.tables c.walk.new.extractor = alias-refused t w (stored_field (view_in t).bytes f) d c.in_err-made-in-Alias.ensures.answer in
+    subst (λ q. Answered t (walk_in t c.args.inputs (expr_in (view_in t).trees c.args.e.0) (extractor_of (view_in t) x)) q c.walk.new.tables c.walk.new.extractor) (sym e)
+    (subst (λ z. Answered t z (Err d) c.walk.new.tables c.walk.new.extractor) (sym h) r)
 
 pub realias-requires-clause-stored : goal.realias-requires-clause-stored
 realias-requires-clause-stored n c =
@@ -109,12 +109,12 @@ realias-requires-clause-stored n c =
     let i = c.in-Alias.inner in
     let f = c.in-Alias.field in
     let inside = inside-here t c.terms.result.now c.terms.ensures c.args.e.0 (Alias i f) c.in-Alias.ensures.tree c.in-Alias.ensures.inside in
-    (field-stays t c.routing_extract.new.tables c.in_ok-made-in-Alias.ensures.answer.grows f (name-stored t c.args.e.0 i f inside)).1
+    (field-stays t c.walk.new.tables c.in_ok-made-in-Alias.ensures.answer.grows f (name-stored t c.args.e.0 i f inside)).1
 
 pub realias-requires-clause-tree : goal.realias-requires-clause-tree
 realias-requires-clause-tree n c =
     let t = c.args.tables.now in
-    let u = c.routing_extract.new.tables in
+    let u = c.walk.new.tables in
     let i = c.in-Alias.inner in
     let f = c.in-Alias.field in
     let tree = tree-here t c.terms.result.now c.terms.ensures c.args.e.0 (Alias i f) c.in-Alias.ensures.tree c.in-Alias.ensures.inside in
@@ -126,7 +126,7 @@ realias-requires-clause-tree n c =
 pub realias-requires-clause-small : goal.realias-requires-clause-small
 realias-requires-clause-small n c =
     let t = c.args.tables.now in
-    let u = c.routing_extract.new.tables in
+    let u = c.walk.new.tables in
     let v = view_in t in
     let i = c.in-Alias.inner in
     let f = c.in-Alias.field in
@@ -138,7 +138,7 @@ realias-requires-clause-small n c =
 pub returns-in_ok-made-in-Alias-clause-answer : goal.returns-in_ok-made-in-Alias-clause-answer
 returns-in_ok-made-in-Alias-clause-answer n c =
     let t = c.args.tables.now in
-    let u = c.routing_extract.new.tables in
+    let u = c.walk.new.tables in
     let x = c.args.extractor.now in
     let i = c.in-Alias.inner in
     let f = c.in-Alias.field in
@@ -150,8 +150,8 @@ returns-in_ok-made-in-Alias-clause-answer n c =
     let w = walk_in t c.args.inputs (expr_in (view_in t).trees i.0) (extractor_of (view_in t) x) in
     let k = (field-stays t u a.grows f (name-stored t c.args.e.0 i f inside)).0 in
     let b = subst (λ z. BuiltBy u (space 1 0 0 0 0) z c.realias.result c.realias.new.tables) (ap₂ alias a.tree k) c.realias.ensures.answer in
-    subst (λ z. Answered t z c.realias.result c.realias.new.tables c.routing_extract.new.extractor) (sym h)
-    (alias-step t u c.realias.new.tables c.routing_extract.new.extractor w c.in_ok-made-in-Alias.made.0 a (stored_field (view_in t).bytes f) c.realias.result b)
+    subst (λ z. Answered t z c.realias.result c.realias.new.tables c.walk.new.extractor) (sym h)
+    (alias-step t u c.realias.new.tables c.walk.new.extractor w c.in_ok-made-in-Alias.made.0 a (stored_field (view_in t).bytes f) c.realias.result b)
 
 pub add_extracted-requires-clause-needed : goal.add_extracted-requires-clause-needed
 add_extracted-requires-clause-needed n c =
@@ -182,8 +182,8 @@ listed-given-requires-clause-few n c =
     let xs = part (view_in t).entries r.first r.count in
     omega (arith, few t.terms e f r xs refl inside tree c.requires.present, counted t.terms e f r xs refl inside tree)
 
-pub routing_extract-requires-in-loop-argument : goal.routing_extract-requires-in-loop-argument
-routing_extract-requires-in-loop-argument n c =
+pub walk-requires-in-loop-argument : goal.walk-requires-in-loop-argument
+walk-requires-in-loop-argument n c =
     let t = c.args.tables.now in
     let e = c.args.e.0 in
     let f = c.in-Call.function in
@@ -217,7 +217,7 @@ returns-in_err-part-in-Call-clause-answer n c =
     let k = c.loop-argument.invariant in
     let d = c.in_err-part-in-Call.field-0.0 in
     let is-err : c.from_residual-in_err-part-in-Call.result ≡ Err d = search rules in
-    subst (λ q. Answered t (walk_in t c.args.inputs (expr_in (view_in t).trees e) (extractor_of (view_in t) x)) q c.routing_extract-in-loop-argument.new.tables c.routing_extract-in-loop-argument.new.extractor) (sym is-err)
+    subst (λ q. Answered t (walk_in t c.args.inputs (expr_in (view_in t).trees e) (extractor_of (view_in t) x)) q c.walk-in-loop-argument.new.tables c.walk-in-loop-argument.new.extractor) (sym is-err)
     (refused t c.args.inputs e f r given x tree inside given-is c.requires.present c.in_default.ensures u y c.loop-argument.made i c.loop-argument.same k c.loop-argument-test.true first d c.in_err-part-in-Call.ensures.answer)
 
 pub loop-argument-preserved : goal.loop-argument-preserved
@@ -235,7 +235,7 @@ loop-argument-preserved n c =
     let u = c.loop-argument.tables in
     let y = c.loop-argument.extractor in
     let k = c.loop-argument.invariant in
-    turn t c.args.inputs e f r given x tree inside given-is c.requires.present c.in_default.ensures u y c.loop-argument.made i c.loop-argument.same k c.loop-argument-test.true first c.routing_extract-in-loop-argument.new.tables c.routing_extract-in-loop-argument.new.extractor c.in_ok-part-in-Call.part c.in_ok-part-in-Call.ensures.answer
+    turn t c.args.inputs e f r given x tree inside given-is c.requires.present c.in_default.ensures u y c.loop-argument.made i c.loop-argument.same k c.loop-argument-test.true first c.walk-in-loop-argument.new.tables c.walk-in-loop-argument.new.extractor c.in_ok-part-in-Call.part c.in_ok-part-in-Call.ensures.answer
     c.push.new.self c.push.ensures c.in_ok-part-in-Call.ensures.begins c.still_same-same.result c.still_same-same.ensures
 
 pub recall-requires-clause-tree : goal.recall-requires-clause-tree

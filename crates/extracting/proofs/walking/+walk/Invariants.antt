@@ -6,10 +6,10 @@ use Rattle.terms.specs.Views.{numbers_of}
 use Rattle.extracting.specs.Extractors.{extractor_of}
 use Rattle.extracting.specs.Owners.{owner_by}
 use Rattle.extracting.proofs.Steps.{Partly}
-use Rattle.extracting.proofs.walking.+routing_extract.Given as goal
+use Rattle.extracting.proofs.walking.+walk.Given as goal
 
-abbrev pub decreases-routing_extract : goal.decreases-routing_extract
-decreases-routing_extract l = l.e.0
+abbrev pub decreases-walk : goal.decreases-walk
+decreases-walk l = l.e.0
 
 -- what is left of the walk through the arguments goes on from the tables and the extractor as they are now
 abbrev pub invariant-loop-argument : goal.invariant-loop-argument
