@@ -14,8 +14,8 @@ use Rattle.tables.specs.Holding.{fields_at, nodes_of, plan_count, view_in}
 use Rattle.tables.specs.declared.node.PlanNode.TheVariants.{Union}
 use Rattle.tables.specs.declared.node.PlanRecord.{PlanRecord}
 use Rattle.tables.specs.declared.tables.Tables.{Tables}
-use Rattle.terms.specs.Spans.{stored_field}
-use Rattle.terms.specs.declared.node.ExprId.{ExprId}
+use Rattle.entries.specs.Spans.{stored_field}
+use Rattle.entries.specs.declared.node.ExprId.{ExprId}
 use Rattle.extracting.specs.Columns.{Columned, columns_by, sided}
 use Rattle.extracting.specs.Extractors.{extractor_of, needs_of}
 use Rattle.extracting.specs.Owners.{inputs_in, owner_by}

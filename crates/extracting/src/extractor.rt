@@ -1,9 +1,9 @@
 //! What a walk has found so far; the methods stand below, so that they can cite `specs/Extractors.antt`.
 ghost use Rattle.std.specs.Prelude.{◌≤◌, length};
 
+use entries::node::{ExprId, StoredField};
 use routing::owning::Side;
 use table::table::Table;
-use entries::node::{ExprId, StoredField};
 
 mod entering;
 mod needing;

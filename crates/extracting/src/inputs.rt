@@ -5,9 +5,9 @@ ghost use Rattle.routing.specs.Sides.{side_of};
 ghost use Rattle.std.specs.Prelude.{◌≡◌, ◌<◌, true, length, option_map};
 ghost use Rattle.tables.specs.Holding.{nodes_of, plan_count, view_in};
 
+use entries::node::{ExprId, PlanId};
 use routing::owning::{Side, find_owning_input, find_sole_input};
 use tables::tables::Tables;
-use entries::node::{ExprId, PlanId};
 
 /// The one input of a node, or its two.
 #[derive(Clone, Copy)]

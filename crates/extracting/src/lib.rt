@@ -2,7 +2,6 @@
 #![tactic(auto)]
 
 pub mod extractor;
-pub mod generated;
 pub mod inputs;
 mod rebuilding;
 pub mod walking;

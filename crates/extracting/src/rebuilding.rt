@@ -15,10 +15,10 @@ ghost use Rattle.entries.specs.Spans.{stored_field, stored_in};
 ghost use Rattle.terms.specs.Views.{numbers_of};
 ghost use Rattle.plan.specs.Calls.{all_below};
 
-use crate::generated::generated;
+use entries::node::{ExprId, StoredField};
+use numbering::alias::generated;
 use plan::fault::Fault;
 use tables::tables::Tables;
-use entries::node::{ExprId, StoredField};
 
 /// A reference to the alias of a number.
 pub(crate) fn alias_column(tables: &mut Tables, alias: u32) -> Result<ExprId, Fault>

@@ -15,14 +15,14 @@ ghost use Rattle.terms.specs.Views.{numbers_of, view_of};
 use crate::extractor::Extractor;
 use crate::inputs::{Inputs, owning_input};
 use crate::rebuilding::{realias, recall};
+use entries::listed::Listed;
+use entries::node::{ExprId, ExprNode, Run};
 use names::is_prefixed;
 use plan::fault::Fault;
 use routing::owning::Side;
 use routing::placement::placement;
 use table::table::Table;
 use tables::tables::Tables;
-use entries::listed::Listed;
-use entries::node::{ExprId, ExprNode, Run};
 use terms::terms::Terms;
 
 /// The arguments of a call, apart from the tables.

@@ -8,9 +8,9 @@ ghost use Rattle.std.specs.Prelude.{◌≡◌, ◌+◌, ◌<◌, ◌≤◌, true
 ghost use Rattle.terms.specs.Views.{count, tree_of, view_of};
 
 use super::{Extracted, Extractor};
+use entries::node::ExprId;
 use routing::owning::Side;
 use routing::same::same_expr;
-use entries::node::ExprId;
 use terms::terms::Terms;
 
 impl Extractor {

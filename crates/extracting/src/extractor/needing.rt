@@ -9,10 +9,10 @@ ghost use Rattle.entries.specs.Spans.{stored_field, stored_in};
 ghost use Rattle.terms.specs.Views.{count, tree_of, view_of};
 
 use super::{Extractor, Needed};
-use naming::resolving::same_field;
-use routing::owning::Side;
 use entries::listed::Listed;
 use entries::node::{ExprId, ExprNode, StoredField};
+use naming::resolving::same_field;
+use routing::owning::Side;
 use terms::terms::Terms;
 
 /// Whether two inputs are the same one.

@@ -7,9 +7,9 @@ ghost use Rattle.std.specs.Prelude.{◌≡◌, List};
 ghost use Rattle.terms.specs.Views.{View};
 
 use super::{Extracted, Extractor, Needed};
+use entries::node::{ExprId, Span, StoredField};
 use routing::owning::Side;
 use table::table::Table;
-use entries::node::{ExprId, Span, StoredField};
 
 impl Extractor {
     /// Nothing found yet; the first alias takes the number `next`.

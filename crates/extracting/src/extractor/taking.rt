@@ -13,10 +13,10 @@ ghost use Rattle.tables.specs.Holding.{view_in};
 
 use super::Extractor;
 use crate::rebuilding::alias_column;
+use entries::node::ExprId;
 use plan::fault::{Fault, Question, Stage};
 use routing::owning::Side;
 use tables::tables::Tables;
-use entries::node::ExprId;
 
 /// Whether an alias may have a number.
 #[tactic(auto, unfolding(rewriting::specs::Generated::countable))]
