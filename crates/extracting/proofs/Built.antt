@@ -1,21 +1,20 @@
 -- From what the calls that make an expression answer to what a step of the walk does.
-use Rattle.std.proofs.Common.{◌≡◌, ℕ, ◌+◌, ◌<◌, ◌≤◌, Bool, true, false, cond, not, ◌&&◌, List, [], ◌∷◌, ◌++◌, length, is_some, sum_by, Some, None, Ok, Err, Option, Result, sym, refl, ap, ap₂, ◌∙◌, arith}
-use Rattle.std.proofs.lemmas.List.{get_or_at, length-map, length_push}
+use Rattle.std.proofs.Common.{◌≡◌, ℕ, ◌+◌, ◌<◌, Bool, true, false, cond, not, List, [], ◌∷◌, ◌++◌, length, is_some, Some, None, Ok, Err, Option, Result, sym, refl, ap, ap₂, ◌∙◌, arith}
+use Rattle.std.proofs.lemmas.List.{get_or_at, length_push}
 use Rattle.std.proofs.lemmas.List.Sums.{sum_by-cons}
 use Rattle.std.proofs.lemmas.Bool.{and_from}
 use Rattle.plan.specs.Calls.Call.{make_call, make_reference}
 use Rattle.plan.specs.Calls.{Answers, Call, Made, all_below, arity_is, good_field, new_exprs, new_inputs, new_plans, number_of_new, outlay}
 use Rattle.plan.specs.Faults.{first_no, refusal}
 use Rattle.plan.specs.Fields.{any}
-use Rattle.plan.specs.Functions.{Function, Functions, function_at, is_total}
-use Rattle.plan.specs.Model.{Model, Space, expr_in, exprs_in, fits, no_expr, space}
+use Rattle.plan.specs.Functions.{Function, function_at, is_total}
+use Rattle.plan.specs.Model.{Model, expr_in, exprs_in, fits, no_expr, space}
 use Rattle.plan.specs.Names.{Name}
 use Rattle.plan.specs.Questions.{small_tree}
 use Rattle.plan.specs.Rendering.{unqualified_field}
 use Rattle.plan.specs.Terms.{Expr, arguments}
 use Rattle.plan.specs.Terms.Expr.{call, reference}
 use Rattle.plan.specs.declared.fault.Fault.{Fault}
-use Rattle.plan.specs.declared.fault.Question.{Question}
 use Rattle.plan.specs.declared.fault.Question.TheVariants.{Bounded, Limited, Named, Placed, Present, Space as SpaceQuestion}
 use Rattle.rewriting.specs.Generated.{expr_names, field_names, qualifier_names}
 use Rattle.rewriting.specs.Outlay.{entries_of, tree_space}

@@ -1,16 +1,15 @@
 -- What the walk reads of a node, where m are the expressions of the tables t; and what the walk comes to there.
-use Rattle.std.proofs.Common.{◌≡◌, ℕ, ◌+◌, ◌<◌, ◌≤◌, Bool, true, false, not, ◌&&◌, cond, ltb, leb, List, [], ◌∷◌, length, get_or, Some, None, Option, sym, refl, ap, ap₂, ◌∙◌, subst, arith}
+use Rattle.std.proofs.Common.{◌≡◌, ℕ, ◌+◌, ◌<◌, ◌≤◌, Bool, true, false, not, ◌&&◌, cond, ltb, leb, List, length, get_or, Some, None, Option, sym, refl, ap, ap₂, ◌∙◌, subst, arith}
 use Rattle.std.proofs.lemmas.Bool.{and_parts, ltb-true}
 use Rattle.std.proofs.lemmas.List.{get_or-map, length-map}
-use Rattle.names.specs.Spans.{word}
 use Rattle.plan.specs.Calls.{all_below, arity_is}
-use Rattle.plan.specs.Fields.{any, every}
+use Rattle.plan.specs.Fields.{any}
 use Rattle.plan.specs.Functions.{Functions, function_at, is_marked, is_total, placement_of}
 use Rattle.plan.specs.Model.{expr_in, exprs_in, no_expr}
 use Rattle.plan.specs.Names.{prefixed}
 use Rattle.plan.specs.Questions.{small_tree}
-use Rattle.plan.specs.Terms.{Expr, Exprs, arguments, listed}
-use Rattle.plan.specs.Terms.Expr.{alias, call, literal, reference}
+use Rattle.plan.specs.Terms.{Expr, arguments, listed}
+use Rattle.plan.specs.Terms.Expr.{alias, call}
 use Rattle.rewriting.specs.Routing
 use Rattle.rewriting.specs.Routing.{Side, add_extracted, entered, noted, routing_extract, routing_extract_all}
 use Rattle.lexicon.proofs.Frames.{every-at}
@@ -28,13 +27,13 @@ use Rattle.entries.specs.declared.node.Run.{Run}
 use Rattle.entries.specs.declared.node.StoredField.{StoredField}
 use Rattle.terms.specs.declared.terms.Terms.{Terms}
 use Rattle.terms.proofs.Frames.{field-grow}
-use Rattle.terms.proofs.Walks.{counted, few, item_below, listed-arguments}
+use Rattle.terms.proofs.Walks.{few, item_below, listed-arguments}
 use Rattle.extracting.specs.Extractors.{Inside, extractor_of}
 use Rattle.extracting.specs.Owners.{inputs_in, owner_by}
 use Rattle.extracting.specs.Walking.{Grows, Walked, walk_in}
 use Rattle.extracting.specs.declared.extractor.Extractor.{Extractor}
 use Rattle.extracting.specs.declared.inputs.Inputs.{Inputs}
-use Rattle.extracting.proofs.Growing.{grows-at-once, longer, owner-stays, tree-stays}
+use Rattle.extracting.proofs.Growing.{grows-at-once, owner-stays}
 use Rattle.extracting.proofs.Rewritten.{walk-alias, walk-call, walk-literal, walk-prefixed, walk-reference, walk-taken}
 use Rattle.extracting.proofs.Spaces.{within-same}
 

@@ -1,10 +1,9 @@
 -- What is needed of the inputs of a node has room, and stays so.
-use Rattle.std.proofs.Common.{◌≡◌, ℕ, zero, suc, ◌+◌, ◌<◌, ◌≤◌, true, ◌&&◌, ltb, List, [], ◌∷◌, ◌++◌, length, get_or, Ok, Err, Result, IfOk, sym, refl, ap, ap₂, ◌∙◌, subst, arith, length-append}
+use Rattle.std.proofs.Common.{◌≡◌, ℕ, zero, suc, ◌<◌, ◌≤◌, true, ltb, List, [], ◌∷◌, length, get_or, Ok, Err, Result, IfOk, sym, refl, ap, ap₂, subst, arith, length-append}
 use Rattle.std.proofs.lemmas.Bool.{and_parts, leb-true, ltb-true}
 use Rattle.std.proofs.lemmas.List.{length-map}
 use Rattle.table.specs.Contents.{part}
 use Rattle.table.proofs.Parts.{length_part}
-use Rattle.plan.specs.Plans.{fields_of}
 use Rattle.plan.specs.Terms.{Expr, Field}
 use Rattle.plan.specs.declared.fault.Fault.{Fault}
 use Rattle.rewriting.specs.Routing

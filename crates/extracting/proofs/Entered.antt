@@ -1,5 +1,5 @@
 -- The alias that an expression has already, entry by entry.
-use Rattle.std.proofs.Common.{◌≡◌, ℕ, ◌+◌, ◌<◌, ◌≤◌, Bool, true, false, cond, List, [], ◌∷◌, map, length, get_or, drop, Some, None, sym, ap, ◌∙◌, arith}
+use Rattle.std.proofs.Common.{◌≡◌, ℕ, ◌+◌, ◌<◌, ◌≤◌, true, false, cond, List, map, length, get_or, drop, Some, None, sym, ap, ◌∙◌}
 use Rattle.table.proofs.Loops.{mapped-step, mapped_end}
 use Rattle.plan.specs.Terms.{Expr, same_expr}
 use Rattle.rewriting.specs.Generated.{generated}

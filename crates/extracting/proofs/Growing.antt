@@ -1,17 +1,13 @@
 -- Tables that only grow by expressions: what their numbers stand for stays.
-use Rattle.std.proofs.Common.{◌≡◌, ℕ, ◌+◌, ◌<◌, ◌≤◌, true, false, ◌&&◌, ltb, List, [], ◌∷◌, ◌++◌, map, length, sym, refl, ap, ap₂, ◌∙◌, arith, length-append}
+use Rattle.std.proofs.Common.{◌≡◌, ℕ, ◌<◌, ◌≤◌, true, false, ltb, List, [], ◌∷◌, ◌++◌, map, length, sym, refl, ap, ap₂, ◌∙◌, arith, length-append}
 use Rattle.std.proofs.lemmas.Bool.{and_from, and_parts, lt-ltb, ltb-true}
 use Rattle.std.proofs.lemmas.List.{append-nil, get_or_append_left}
-use Rattle.lexicon.specs.Begun.{Begins}
 use Rattle.lexicon.proofs.Begun.{at-once, begins-then}
 use Rattle.plan.specs.Calls.{Call, Made, new_inputs, new_plans}
 use Rattle.plan.specs.Fields.{every}
-use Rattle.plan.specs.Functions.{Functions}
 use Rattle.plan.specs.Model.{Model, expr_in, no_expr}
-use Rattle.plan.specs.Terms.{Expr, Field}
+use Rattle.plan.specs.Terms.{Expr}
 use Rattle.rewriting.specs.Generated.{countable, generated}
-use Rattle.rewriting.specs.Routing.{Entry, Side}
-use Rattle.rewriting.specs.Routing
 use Rattle.routing.specs.Sides.{side_of}
 use Rattle.tables.specs.Holding.{model_of, nodes_of, view_in}
 use Rattle.tables.specs.Reusing.{Added}

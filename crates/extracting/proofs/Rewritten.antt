@@ -3,7 +3,7 @@ use Rattle.std.proofs.Common.{◌≡◌, ℕ, ◌+◌, ◌<◌, ◌≤◌, Bool,
 use Rattle.std.proofs.lemmas.List.{at_drop_all, at_drop_more, length_push}
 use Rattle.plan.specs.Functions.{Functions, is_marked, is_total, placement_of}
 use Rattle.plan.specs.Names.{Name, prefixed}
-use Rattle.plan.specs.Terms.{Expr, Exprs, Field, Literal, arguments, listed, references_of, same_field, size_of, sizes_of}
+use Rattle.plan.specs.Terms.{Expr, Exprs, Field, Literal, arguments, references_of, same_field, size_of, sizes_of}
 use Rattle.plan.specs.Terms.Expr.{alias, call, literal, reference}
 use Rattle.plan.specs.Terms.Exprs.{more, none}
 use Rattle.plan.specs.Fields.{any}

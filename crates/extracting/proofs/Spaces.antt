@@ -1,10 +1,10 @@
 -- Places, table by table: what fits where less is used, and the places of an expression by its parts.
-use Rattle.std.proofs.Common.{◌≡◌, ℕ, ◌+◌, ◌≤◌, Bool, true, false, ◌&&◌, leb, List, [], ◌∷◌, ◌++◌, length, sum_by, sym, refl, ap, ◌∙◌, append_assoc, arith, length-append}
+use Rattle.std.proofs.Common.{◌≡◌, ℕ, ◌+◌, ◌≤◌, Bool, true, false, ◌&&◌, leb, List, [], ◌∷◌, ◌++◌, length, sum_by, refl, ap, append_assoc, arith}
 use Rattle.std.proofs.lemmas.Bool.{and_from, and_parts, leb-true, le-leb}
 use Rattle.std.proofs.lemmas.List.Sums.{sum_by-append}
 use Rattle.plan.specs.Model.{Space, Within, fits, plus, space}
 use Rattle.plan.specs.Terms.{Expr, Field, arguments, size_of, sizes_of}
-use Rattle.plan.specs.Terms.Expr.{alias, call, reference}
+use Rattle.plan.specs.Terms.Expr.{alias, call}
 use Rattle.rewriting.specs.Generated.{expr_names, exprs_names, field_names}
 use Rattle.tables.proofs.Answers.{space-same}
 use Rattle.rewriting.specs.Outlay.{entries_of, entries_of_all, list_space, nothing, tree_space}

@@ -1,18 +1,16 @@
 -- One step of the walk after another: an alias, and the arguments of a call one by one.
-use Rattle.std.proofs.Common.{◌≡◌, ℕ, ◌+◌, ◌<◌, ◌≤◌, Bool, true, false, List, [], ◌∷◌, ◌++◌, map, length, get_or, take, drop, Ok, Err, Option, Result, ◌⊎◌, inl, inr, sym, refl, ap, ap₂, ◌∙◌, subst, append_assoc, arith, length-append}
-use Rattle.std.proofs.lemmas.List.{append-nil, get_or-map, length-map, length_push, map_push, take_all, take_more}
+use Rattle.std.proofs.Common.{◌≡◌, ℕ, ◌+◌, ◌<◌, ◌≤◌, Bool, true, List, [], ◌∷◌, ◌++◌, length, get_or, take, drop, Ok, Err, Option, Result, ◌⊎◌, inl, inr, sym, refl, ap, ap₂, ◌∙◌, subst, append_assoc, arith}
+use Rattle.std.proofs.lemmas.List.{append-nil, length-map, length_push, map_push, take_more}
 use Rattle.std.proofs.lemmas.Bool.{and_from, and_parts, lt-ltb, ltb-true}
 use Rattle.plan.specs.Calls.{all_below, below}
-use Rattle.plan.specs.Fields.{every}
 use Rattle.plan.specs.Functions.{Functions}
-use Rattle.plan.specs.Model.{Space, Within, expr_in, exprs_in, fits, no_expr, plus, space}
+use Rattle.plan.specs.Model.{Within, expr_in, exprs_in, fits, no_expr, space}
 use Rattle.plan.specs.Terms.{Expr, Field, arguments}
 use Rattle.plan.specs.Terms.Expr.{alias, call}
 use Rattle.plan.specs.declared.fault.Fault.{Fault}
 use Rattle.rewriting.specs.Outlay.{list_space, nothing, tree_space}
 use Rattle.rewriting.specs.Routing
 use Rattle.rewriting.specs.Routing.{Side, routing_extract, routing_extract_all}
-use Rattle.lexicon.proofs.Frames.{every_append}
 use Rattle.tables.proofs.Begun.{tables-then}
 use Rattle.tables.specs.Begun.{TablesBegin}
 use Rattle.tables.specs.Holding.{model_of, view_in}

@@ -1,8 +1,7 @@
 -- The walk through the arguments of a call: one turn, and the end.
-use Rattle.std.proofs.Common.{◌≡◌, ℕ, ◌+◌, ◌<◌, ◌≤◌, Bool, true, false, ◌&&◌, cond, eqb, List, [], ◌∷◌, ◌++◌, length, get_or, take, drop, None, Err, Option, Result, ◌⊎◌, inl, inr, sym, refl, ap, ap₂, ◌∙◌, subst, arith}
+use Rattle.std.proofs.Common.{◌≡◌, ℕ, ◌+◌, ◌<◌, ◌≤◌, Bool, true, false, ◌&&◌, cond, eqb, List, [], ◌∷◌, ◌++◌, length, get_or, drop, None, Option, Result, ◌⊎◌, sym, ap, ap₂, ◌∙◌, subst, arith}
 use Rattle.std.proofs.lemmas.Bool.{and_parts, eqb-true}
 use Rattle.std.proofs.lemmas.List.{append-nil, take_all}
-use Rattle.plan.specs.Calls.{all_below}
 use Rattle.plan.specs.Fields.{any}
 use Rattle.plan.specs.Functions.{Functions, is_marked, is_total, placement_of}
 use Rattle.plan.specs.Model.{expr_in, exprs_in, no_expr, space}
@@ -20,7 +19,7 @@ use Rattle.entries.specs.declared.node.ExprId.{ExprId}
 use Rattle.entries.specs.declared.node.ExprNode.TheVariants.{Call}
 use Rattle.entries.specs.declared.node.Run.{Run}
 use Rattle.extracting.specs.Extractors.{extractor_of}
-use Rattle.extracting.specs.Owners.{inputs_in, owner_by}
+use Rattle.extracting.specs.Owners.{owner_by}
 use Rattle.extracting.specs.Walking.{Answered, BuiltBy, NoNumber, NoRoom, Walked, walk_in}
 use Rattle.extracting.specs.declared.extractor.Extractor.{Extractor}
 use Rattle.extracting.specs.declared.inputs.Inputs.{Inputs}

@@ -3,7 +3,7 @@
 --     entries_of v x, needs_of v x, extractor_of v x      all of them; all of the extractor
 --     Inside v x      its expressions stand in the tables under numbers that an alias may have, and its columns are inside the text
 --     needing s fs g, renewed g      an extractor that needs the columns fs too; one that has taken something out
-use Rattle.std.specs.Prelude.{◌≡◌, ℕ, Bool, true, false, ◌&&◌, List, map, length, nat_lt}
+use Rattle.std.specs.Prelude.{◌≡◌, Bool, true, false, ◌&&◌, List, map, length, nat_lt}
 use Rattle.plan.specs.Fields.{every}
 use Rattle.plan.specs.Model.{expr_in}
 use Rattle.plan.specs.Terms.{Field}

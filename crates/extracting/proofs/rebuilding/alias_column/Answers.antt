@@ -1,4 +1,4 @@
-use Rattle.std.proofs.Common.{None, Result, ap, ◌∙◌, subst}
+use Rattle.std.proofs.Common.{subst}
 use Rattle.std.proofs.lemmas.Bool.{and_parts, leb-true}
 use Rattle.plan.specs.Calls.Call.{make_reference}
 use Rattle.plan.specs.Calls.{Answers, good_field}

@@ -1,4 +1,4 @@
-use Rattle.std.proofs.Common.{◌≡◌, ◌≤◌, ◌<◌, ◌+◌, true, List, Err, None, Some, length, option_map, sym, refl, ap, ap₂, ◌∙◌, subst, arith, rules}
+use Rattle.std.proofs.Common.{◌≡◌, ◌≤◌, List, Err, length, option_map, sym, refl, ap, ap₂, ◌∙◌, subst, arith, rules}
 use Rattle.names.specs.Spans.{word}
 use Rattle.plan.specs.Fields.{any}
 use Rattle.plan.specs.Functions.{is_total}

@@ -1,4 +1,4 @@
-use Rattle.std.proofs.Common.{◌≡◌, ◌+◌, ◌<◌, [], ◌∷◌, length, drop, get_or, refl, sym, ap, ◌∙◌, arith}
+use Rattle.std.proofs.Common.{◌≡◌, ◌+◌, ◌<◌, length, drop, get_or, refl, sym, ap, ◌∙◌, arith}
 use Rattle.plan.specs.Model.{no_expr}
 use Rattle.plan.specs.Terms.{arguments, references_of, references_of_all}
 use Rattle.rewriting.specs.Routing.{needs}

@@ -1,4 +1,4 @@
-use Rattle.std.proofs.Common.{◌≡◌, Some, None, sym, ap, subst}
+use Rattle.std.proofs.Common.{◌≡◌, Some, None, ap, subst}
 use Rattle.plan.specs.Model.{expr_in}
 use Rattle.rewriting.specs.Generated.{generated}
 use Rattle.rewriting.specs.Routing.{add_extracted, entered}

@@ -1,4 +1,4 @@
-use Rattle.std.proofs.Common.{◌≡◌, ◌+◌, ◌<◌, false, [], ◌∷◌, ◌++◌, map, length, sym, ap, ◌∙◌, arith, lit<}
+use Rattle.std.proofs.Common.{◌≡◌, false, [], ◌∷◌, map, length, sym, ap, ◌∙◌, arith, lit<}
 use Rattle.std.proofs.lemmas.List.{length-map, length_push, map_push}
 use Rattle.rewriting.specs.Routing.{needs}
 use Rattle.routing.specs.Sides.{side_of}
