@@ -13,11 +13,11 @@ ghost use Rattle.terms.specs.Views.{numbers_of};
 
 use crate::asked::Asked;
 use draft::reading::has_short_names;
+use entries::node::{ExprId, PlanId, StoredField};
 use naming::resolving::resolved;
 use table::table::Table;
 use tables::node::{NewNode, SortKey};
 use tables::tables::Tables;
-use entries::node::{ExprId, PlanId, StoredField};
 
 // Free functions: Tables is a type of another crate, so that they cannot be its methods. Clauses: `Asked` holds for the whole
 // node that its inputs and expressions are there; these take parts of it.

@@ -11,12 +11,12 @@ ghost use Rattle.plan.specs.Questions.{shown_expressions};
 use crate::asked::Asked;
 use draft::building::{push_bare, push_columns, push_expressions, push_owned, push_stored};
 use draft::word::DraftField;
+use entries::node::{PlanId, Span};
 use names::parts::split_names;
 use plan::code::JoinKind;
 use table::table::Table;
 use tables::node::NewNode;
 use tables::tables::Tables;
-use entries::node::{PlanId, Span};
 
 /// The fields that a join shows.
 // The kind and both sides come as the node has them. Methods of `JoinKind` for its sides would be two contracts more, and

@@ -11,10 +11,10 @@ use crate::asked::Asked;
 use draft::building::push_stored;
 use draft::lawful::Source;
 use draft::word::{DraftField, Word};
+use entries::node::PlanId;
 use table::table::Table;
 use tables::node::NewNode;
 use tables::tables::Tables;
-use entries::node::PlanId;
 
 /// What fills the places of a draft that are not used.
 // A filler from the caller: a Default of fields would be a made-up field that all can see.

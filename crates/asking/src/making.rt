@@ -6,11 +6,11 @@ ghost use Rattle.tables.specs.Making.{NodeMade, bounded, present, well_named};
 
 use crate::asked::Asked;
 use crate::lawful::blank;
+use entries::node::PlanId;
 use plan::fault::{Fault, Question, ask};
 use table::table::Table;
 use tables::node::NewNode;
 use tables::tables::Tables;
-use entries::node::PlanId;
 
 /// Asks the questions on references, fields, limits and space, and stores the node.
 // Clauses, not an Asked: that borrows the tables, and this call writes them.

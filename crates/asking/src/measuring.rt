@@ -10,11 +10,11 @@ ghost use Rattle.plan.specs.Questions.{shown_expressions};
 
 use crate::asked::Asked;
 use draft::reading::rendered_bytes;
+use entries::node::PlanId;
 use names::parts::count_names;
 use plan::code::JoinKind;
 use tables::node::NewNode;
 use tables::tables::Tables;
-use entries::node::PlanId;
 
 /// How many fields a node has.
 fn width_of(tables: &Tables, p: PlanId) -> usize

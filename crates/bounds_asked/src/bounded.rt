@@ -1,8 +1,8 @@
 //! Question 3: counts, codes and function numbers keep their bounds.
 use book::declaration::Book;
+use entries::node::{ExprId, PlanId};
 use std::test::Fail;
 use tables::node::Key;
-use entries::node::{ExprId, PlanId};
 use trials::{NONE, first, has_counts, opened, refused_with, short_names, totals, wholes};
 
 #[test]

@@ -1,7 +1,7 @@
 //! Question 2: names and text literals are well formed.
 use book::declaration::Book;
-use std::test::Fail;
 use entries::node::{ExprId, PlanId};
+use std::test::Fail;
 use trials::{has_counts, opened, refused_with};
 
 #[test]

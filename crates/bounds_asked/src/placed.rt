@@ -1,6 +1,6 @@
 //! Question 4: totals stand among the totals of an Aggregate, and nothing else does.
-use std::test::Fail;
 use entries::node::{ExprId, PlanId};
+use std::test::Fail;
 use trials::{TOTAL, has_counts, key, opened, refused_with};
 
 #[test]

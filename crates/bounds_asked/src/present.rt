@@ -1,6 +1,6 @@
 //! Question 1: what a call names by number stands in the book.
-use std::test::Fail;
 use entries::node::{ExprId, PlanId};
+use std::test::Fail;
 use trials::{TOTAL, has_counts, key, opened, refused_with};
 
 #[test]

@@ -1,6 +1,6 @@
 //! Questions 6 and 7: references resolve, and fields can stand together.
-use std::test::Fail;
 use entries::node::PlanId;
+use std::test::Fail;
 use trials::{TOTAL, has_counts, key, opened, refused_with};
 
 #[test]

@@ -1,9 +1,9 @@
 //! Question 8: fields, trees and rendered names keep their limits.
 use book::declaration::Book;
 use book::opened::OpenBook;
+use entries::node::{ExprId, PlanId};
 use plan::fault::Fault;
 use std::test::Fail;
-use entries::node::{ExprId, PlanId};
 use trials::{first, has_counts, opened, refused_with, short_names};
 
 /// Function 1 so many times over an expression.

@@ -1,7 +1,7 @@
 //! Question 9: each table has room to its last place, and none after it.
 use book::declaration::Book;
-use std::test::Fail;
 use entries::node::{ExprId, PlanId};
+use std::test::Fail;
 use trials::{first, has_counts, key, opened, refused_with, short_names};
 
 #[test]

@@ -1,7 +1,7 @@
 //! The questions are asked in their order: where several are answered no, the first decides.
 use book::declaration::Book;
-use std::test::Fail;
 use entries::node::{ExprId, PlanId};
+use std::test::Fail;
 use trials::{TOTAL, first, has_counts, opened, refused_with, short_names};
 
 #[test]

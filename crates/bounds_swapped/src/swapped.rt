@@ -1,7 +1,7 @@
 //! Swaps with their questions 1, 3, 5 and 9, and what the book tells of its nodes: traces, and whether two have one origin.
 use book::declaration::Book;
-use std::test::Fail;
 use entries::node::{ExprId, PlanId};
+use std::test::Fail;
 use trials::{first, has_counts, key, opened, refused_with, short_names};
 
 #[test]

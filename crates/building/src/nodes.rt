@@ -10,12 +10,12 @@ ghost use Rattle.terms.specs.Views.{numbers_of};
 ghost use Rattle.std.specs.Prelude.{◌≡◌, true, ◌&&◌, length, nat_le};
 
 use asking::making::make;
+use entries::node::{ExprId, PlanId};
 use names::good_name;
 use names::parts::{count_names, good_names};
 use plan::fault::{Fault, Question, ask};
 use tables::node::NewNode;
 use tables::tables::Tables;
-use entries::node::{ExprId, PlanId};
 
 // Free functions: Tables is a type of another crate, so that they cannot be its methods, and a wrapper would only hold it.
 fn good_table(qualifier: &[u8], names: &[u8]) -> bool

@@ -14,12 +14,12 @@ ghost use Rattle.terms.specs.Views.{numbers_of};
 
 use crate::nodes::is_count;
 use asking::making::make;
+use entries::node::{ExprId, PlanId};
 use plan::code::{Direction, JoinKind, UnknownCode};
 use plan::fault::{Fault, Question, ask};
 use table::table::Table;
 use tables::node::{Key, NewNode, SortKey};
 use tables::tables::Tables;
-use entries::node::{ExprId, PlanId};
 
 // Free functions, as in `nodes`. That all of a slice of numbers are there is a clause, as for one number.
 

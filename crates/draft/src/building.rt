@@ -7,8 +7,8 @@ ghost use Rattle.terms.specs.Views.{count, numbers_of, view_of};
 
 use crate::reading::{as_stored, field_of};
 use crate::word::{DraftField, Relation, Word};
-use table::table::Table;
 use entries::node::{ExprId, Span, StoredField};
+use table::table::Table;
 use terms::terms::Terms;
 
 /// Adds stored fields as they are.

@@ -7,9 +7,9 @@ ghost use Rattle.std.specs.Str.{bytes_eq};
 ghost use Rattle.names.specs.Spans.{span_in, word as word_of};
 
 use crate::word::{DraftField, Relation, Word};
+use entries::node::Span;
 use naming::rendering::render;
 use table::table::Table;
-use entries::node::Span;
 use terms::terms::Terms;
 
 /// The part of a text that a span names.

@@ -9,9 +9,9 @@ ghost use Rattle.names.specs.Spans.{span_in, word as word_of};
 ghost use Rattle.terms.specs.Views.{count, grown, tree_of, view_of};
 
 use crate::word::{DraftField, Relation, Word};
+use entries::node::{ExprId, Span, StoredField};
 use naming::rendering::render;
 use table::table::Table;
-use entries::node::{ExprId, Span, StoredField};
 use terms::terms::Terms;
 
 /// Where the lent owner's name and the lent names stand in the text.

@@ -9,8 +9,8 @@ ghost use Rattle.std.specs.Prelude.{◌≡◌, true};
 
 use book::opened::OpenBook;
 use engine::Engine;
-use plan::fault::{Fault, Question, ask};
 use entries::node::{ExprId, PlanId};
+use plan::fault::{Fault, Question, ask};
 use value::Value;
 use valuing::Row;
 

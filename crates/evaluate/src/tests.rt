@@ -6,9 +6,9 @@ use book::opened::OpenBook;
 use engine::arithmetic::Arithmetic;
 use engine::pair::Pair;
 use engine::records::{Entry, Records};
+use entries::node::{ExprId, PlanId};
 use plan::fault::Fault;
 use std::test::Fail;
-use entries::node::{ExprId, PlanId};
 use value::Value::{Null, Real, Record, Truth, Whole};
 use value::{Side, Text, Value};
 

@@ -10,11 +10,11 @@ ghost use Rattle.terms.specs.Views.{count, tree_of, view_of};
 ghost use Rattle.value.specs.Meanings.{meaning_of};
 
 use engine::Engine;
+use entries::listed::Listed;
+use entries::node::{ExprId, ExprNode, Literal, StoredField};
 use naming::resolving::resolved;
 use plan::fault::{Fault, Question, ask};
 use std::num::{f64_from_bits_with_nan, f64_to_bits_with_nan};
-use entries::listed::Listed;
-use entries::node::{ExprId, ExprNode, Literal, StoredField};
 use terms::terms::Terms;
 use value::{Side, Text, Value};
 

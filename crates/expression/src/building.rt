@@ -13,9 +13,9 @@ ghost use Rattle.plan.specs.Rendering.{dotted, rendered_literal};
 ghost use Rattle.entries.specs.Spans.{literal_at, plain_literal, stored_field, stored_in};
 ghost use Rattle.terms.specs.Views.{count, grown, tree_of, view_of};
 
+use entries::node::{ExprId, ExprNode, Literal, StoredField};
 use names::{good_name, is_prefixed, signed_len};
 use plan::fault::{Fault, Question, ask};
-use entries::node::{ExprId, ExprNode, Literal, StoredField};
 use terms::terms::Terms;
 
 /// A name and a qualifier, as a caller gives them.

@@ -15,8 +15,8 @@ ghost use Rattle.expression.specs.Building.{Answered, roomy};
 ghost use Rattle.terms.specs.Views.{AllPresent, arguments_of, count, numbers_of, view_of};
 
 use crate::building::ask_room;
-use plan::fault::{Fault, Question, ask};
 use entries::node::{ExprId, ExprNode};
+use plan::fault::{Fault, Question, ask};
 use terms::terms::Terms;
 
 /// The arguments of a call: at most four, and each stands in the book.

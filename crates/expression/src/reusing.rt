@@ -11,8 +11,8 @@ ghost use Rattle.entries.specs.Spans.{stored_field, stored_in};
 ghost use Rattle.terms.specs.Views.{count, tree_of, view_of};
 
 use crate::building::ask_room;
-use plan::fault::Fault;
 use entries::node::{ExprId, ExprNode, StoredField};
+use plan::fault::Fault;
 use terms::terms::Terms;
 
 /// How long the rendered name of a reference is.

@@ -15,11 +15,11 @@ ghost use Rattle.entries.specs.Spans.{stored_field, stored_in};
 ghost use Rattle.names.specs.Spans.{span_in, word};
 ghost use Rattle.terms.specs.Views.{tree_for};
 
+use entries::node::{Entry, ExprId, ExprNode, PlanId, Span, StoredField};
 use lexicon::declaration::Declaration;
 use plan::fault::{Fault, Question, ask};
 use tables::node::{PlanRecord, Run};
 use tables::tables::Tables;
-use entries::node::{Entry, ExprId, ExprNode, PlanId, Span, StoredField};
 
 // Free functions, here and in `tracing`: Tables is a type of another crate, so that they cannot be its methods.
 

@@ -8,12 +8,12 @@ ghost use Rattle.looking.specs.Looking.{Looked};
 ghost use Rattle.tables.specs.Stored.{list_in, run_exprs};
 ghost use Rattle.looking.specs.Tracing.{WalkedTo, found_plan};
 
+use entries::listed::Listed;
+use entries::node::{ExprId, ExprNode, PlanId};
 use names::good_name;
 use plan::fault::{Fault, Question, ask};
 use tables::node::{PlanNode, Run};
 use tables::tables::Tables;
-use entries::listed::Listed;
-use entries::node::{ExprId, ExprNode, PlanId};
 
 /// Whether an expression is an alias of this name.
 fn is_aliased(tables: &Tables, e: ExprId, name: &[u8]) -> bool

@@ -6,11 +6,11 @@ ghost use Rattle.terms.specs.Build.{gap, width_of};
 ghost use Rattle.entries.specs.Spans.{literal_at, literal_in, stored_field, stored_in};
 ghost use Rattle.terms.specs.Views.{count, tree_of, view_of};
 
+use entries::listed::Listed;
+use entries::node::{ExprId, ExprNode, Literal, StoredField};
 use names::{write_hexadecimal, write_signed};
 use std::num::f64_to_bits_with_nan;
 use table::table::Table;
-use entries::listed::Listed;
-use entries::node::{ExprId, ExprNode, Literal, StoredField};
 use terms::terms::Terms;
 
 /// Parts an argument from the one before it, if there is one.

@@ -9,10 +9,10 @@ ghost use Rattle.tables.specs.Holding.{model_of, nodes_of, plan_count, tree_in, 
 ghost use Rattle.entries.specs.Spans.{literal_at, literal_in, stored_field, stored_in};
 ghost use Rattle.terms.specs.Views.{count, tree_of, view_of};
 
+use entries::node::{ExprId, ExprNode, Literal, PlanId, StoredField};
 use names::number_of;
 use tables::node::PlanNode;
 use tables::tables::Tables;
-use entries::node::{ExprId, ExprNode, Literal, PlanId, StoredField};
 use terms::terms::Terms;
 
 /// Generated aliases have a number above this one.

@@ -2,8 +2,8 @@
 use crate::EQUAL;
 use crate::telling::made;
 use book::opened::OpenBook;
-use tables::node::Key;
 use entries::node::PlanId;
+use tables::node::Key;
 
 /// The kind of a Left join.
 const LEFT: u8 = 1;

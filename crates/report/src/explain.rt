@@ -1,10 +1,10 @@
 //! A plan as an indented tree, each node with its fields and its origin.
 use book::opened::OpenBook;
+use entries::node::{Entry, ExprId, ExprNode, Literal, PlanId, Span, StoredField};
 use plan::code::{Direction, JoinKind};
 use std::io;
 use std::str::from_utf8;
 use tables::node::{PlanNode, PlanRecord, Run};
-use entries::node::{Entry, ExprId, ExprNode, Literal, PlanId, Span, StoredField};
 
 /// Bytes as text.
 pub fn show_bytes(rt: &impl Print, bytes: &[u8]) -> io::Result<()> {

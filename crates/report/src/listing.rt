@@ -5,10 +5,10 @@ ghost use Rattle.rewriting.specs.Book.{Agree, Law};
 use crate::telling::told;
 use crate::versions::compared;
 use book::opened::OpenBook;
+use entries::node::PlanId;
 use replay::act::{Act, Answer};
 use replay::performing::replay;
 use std::io;
-use entries::node::PlanId;
 
 /// What the calls of the list ask for, in their order.
 const ASKED: [&str; 3] = [

@@ -7,10 +7,10 @@ use engine::Engine;
 use engine::arithmetic::Arithmetic;
 use engine::pair::Pair;
 use engine::records::{Entry, Records};
+use entries::node::{ExprId, PlanId};
 use evaluate::fits;
 use reporting::{Outcome, Report, Valuing, is_kept, report_of};
 use std::io;
-use entries::node::{ExprId, PlanId};
 use value::{Side, Text, Value, shown};
 
 /// The text that comes with the log: the kinds of events.

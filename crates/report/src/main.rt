@@ -5,13 +5,13 @@
 use book::declaration::Book;
 use book::opened::OpenBook;
 use bookings::{booked, latest_first};
+use entries::node::{ExprId, PlanId};
 use explain::explain;
 use helper::{HELPER, helped_spots, kind_of};
 use listing::perform_list;
 use log_rows::{make_own, show_rows};
 use std::io;
 use telling::{declared, made, told};
-use entries::node::{ExprId, PlanId};
 use versions::{compared, traced, version};
 
 mod bookings;

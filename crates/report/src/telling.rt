@@ -2,9 +2,9 @@
 ghost use Rattle.std.specs.Prelude.{◌≡◌, Ok, IfOk};
 
 use anyhow::anyhow;
+use entries::node::{ExprId, PlanId};
 use plan::fault::Fault;
 use std::io;
-use entries::node::{ExprId, PlanId};
 
 /// What a call makes, and a book knows by a number.
 pub trait Numbered: Copy {

@@ -2,8 +2,8 @@
 //! its name.
 use crate::telling::{made, refused, told};
 use book::opened::OpenBook;
-use std::io;
 use entries::node::PlanId;
+use std::io;
 
 /// A version of the report: its projection is swapped for a version that a swap of the rows for themselves made. A swap
 /// for the rows, which have another origin, is refused.

@@ -16,10 +16,10 @@ ghost use Rattle.value.specs.Meanings.{meaning_of};
 use anyhow::bail;
 use book::opened::OpenBook;
 use engine::Engine;
+use entries::node::{ExprId, PlanId};
 use evaluate::evaluate;
 use plan::fault::Fault;
 use tables::node::{PlanNode, Run};
-use entries::node::{ExprId, PlanId};
 use value::Value;
 
 /// The report as the book has it: a filter over a projection.

@@ -8,9 +8,9 @@ ghost use Rattle.std.specs.Prelude.{◌≡◌, ◌<◌, true, List, ℕ, map, op
 ghost use Rattle.entries.specs.Spans.{stored_field, stored_in};
 ghost use Rattle.terms.specs.Views.{count, tree_of, view_of};
 
-use naming::resolving::same_field;
 use entries::listed::Listed;
 use entries::node::{ExprId, ExprNode, StoredField};
+use naming::resolving::same_field;
 use terms::terms::Terms;
 
 /// The first or the second input of a node.

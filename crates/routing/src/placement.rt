@@ -4,10 +4,10 @@ ghost use Rattle.routing.specs.Placing.{named};
 ghost use Rattle.std.specs.Prelude.{◌≡◌, ◌<◌, not, ◌&&◌, map};
 ghost use Rattle.terms.specs.Views.{count, tree_of, view_of};
 
-use plan::code::Rule;
-use table::table::Table;
 use entries::listed::Listed;
 use entries::node::{ExprId, ExprNode};
+use plan::code::Rule;
+use table::table::Table;
 use terms::terms::Terms;
 
 /// Where the optimizer would have an expression.

@@ -4,10 +4,10 @@ ghost use Rattle.std.specs.Prelude.{◌≡◌, ◌<◌, true};
 ghost use Rattle.entries.specs.Spans.{literal_at, literal_in};
 ghost use Rattle.terms.specs.Views.{count, tree_of, view_of};
 
-use naming::resolving::same_field;
-use std::num::f64_to_bits_with_nan;
 use entries::listed::Listed;
 use entries::node::{ExprId, ExprNode, Literal};
+use naming::resolving::same_field;
+use std::num::f64_to_bits_with_nan;
 use terms::terms::Terms;
 
 /// Whether two literals are equal: reals by their bits, all not-a-numbers alike.

@@ -1,9 +1,9 @@
 //! Lists of the list table as tables of their own, so that they can be lent to a new node.
 ghost use Rattle.std.specs.Prelude.{◌≡◌, ◌≤◌, map, length};
 
-use table::table::Table;
 use entries::listed::Listed;
 use entries::node::{Entry, PlanId};
+use table::table::Table;
 
 /// The items of a list.
 pub fn copied<T: Listed, const N: usize>(entries: &[Entry]) -> Table<T, N>

@@ -12,12 +12,12 @@ ghost use Rattle.names.specs.Spans.{span_in, word};
 
 use crate::copying::{copied, copy_name};
 use asking::making::make;
+use entries::node::{ExprId, PlanId, Span};
 use plan::code::JoinKind;
 use plan::fault::{Fault, Question};
 use table::table::Table;
 use tables::node::{NewNode, PlanNode, Run, SortKey};
 use tables::tables::Tables;
-use entries::node::{ExprId, PlanId, Span};
 
 // One function for each kind that has lists or a name: they copy different lists and promise different trees.
 

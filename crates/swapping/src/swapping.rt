@@ -7,9 +7,9 @@ ghost use Rattle.tables.specs.Answering.{answered_plan};
 ghost use Rattle.tables.specs.Holding.{model_of, plan_count};
 
 use crate::remaking::remake;
+use entries::node::PlanId;
 use plan::fault::{Fault, Question, ask};
 use tables::tables::Tables;
-use entries::node::PlanId;
 
 // Free functions, here and in `remaking`: Tables is a type of another crate, so that they cannot be its methods.
 

@@ -3,9 +3,9 @@ ghost use Rattle.std.specs.Prelude.{refl};
 ghost use Rattle.tables.specs.Keys.{key_entry, key_of};
 
 use crate::node::SortKey;
-use plan::code::Direction;
 use entries::listed::Listed;
 use entries::node::{Entry, ExprId};
+use plan::code::Direction;
 
 impl Listed for SortKey {
     ghost entry = { key_entry };

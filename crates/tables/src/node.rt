@@ -2,9 +2,9 @@
 ghost use Rattle.plan.specs.Codes.{direction_of};
 ghost use Rattle.std.specs.Prelude.{◌≡◌, None, Some, MatchResult};
 
-use plan::code::{Direction, JoinKind, UnknownCode};
 pub use entries::node::Run;
 use entries::node::{ExprId, PlanId, Span};
+use plan::code::{Direction, JoinKind, UnknownCode};
 
 /// One node of a plan; its lists stand in the list table. A Table keeps its own number.
 // No `==`: nodes are equal by the trees that they stand for.

@@ -7,8 +7,8 @@ ghost use Rattle.terms.specs.Views.{view_of};
 ghost use Rattle.std.specs.Prelude.{◌≡◌, ◌≤◌, true, map, length};
 
 use crate::node::PlanRecord;
-use table::table::Table;
 use entries::node::StoredField;
+use table::table::Table;
 use terms::terms::Terms;
 
 mod adding;

@@ -9,9 +9,9 @@ ghost use Rattle.trials.specs.Trials.{Adds, is_refused, names_from, six_function
 
 use book::declaration::Book;
 use book::opened::OpenBook;
+use entries::node::ExprId;
 use plan::fault::Fault;
 use tables::node::Key;
-use entries::node::ExprId;
 
 /// Function 0 has no argument, 1 to 4 have as many as their number; none is a total.
 pub const NONE: u8 = 0;

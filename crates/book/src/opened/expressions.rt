@@ -9,8 +9,8 @@ ghost use Rattle.expression.specs.Building.{given_field};
 ghost use Rattle.terms.specs.Views.{numbers_of};
 
 use super::OpenBook;
-use plan::fault::Fault;
 use entries::node::ExprId;
+use plan::fault::Fault;
 
 impl OpenBook {
     /// The null literal.

@@ -10,9 +10,9 @@ ghost use Rattle.terms.specs.Views.{numbers_of};
 
 use super::OpenBook;
 use building::{nodes, wider};
+use entries::node::{ExprId, PlanId};
 use plan::fault::Fault;
 use tables::node::Key;
-use entries::node::{ExprId, PlanId};
 
 impl OpenBook {
     /// A Table: a qualifier, and the names of its fields parted by commas.

@@ -4,8 +4,8 @@ ghost use Rattle.book.specs.Opened.{SameReport, Told, book_of};
 ghost use Rattle.rewriting.specs.Book.{Law};
 
 use super::OpenBook;
-use plan::fault::{Fault, Question, ask};
 use entries::node::PlanId;
+use plan::fault::{Fault, Question, ask};
 
 impl OpenBook {
     fn ask_origin(&self, a: PlanId, b: PlanId) -> Result<bool, Fault>

@@ -19,12 +19,12 @@ ghost use Rattle.names.specs.Spans.{span_in, word};
 ghost use Rattle.terms.specs.Views.{tree_for};
 
 use super::OpenBook;
+use entries::node::{Entry, ExprId, ExprNode, PlanId, Span, StoredField};
 use lexicon::declaration::Declaration;
 use looking::looking::{entry, expr, field, function, listed, node_fields, plan, word};
 use looking::tracing::trace;
 use plan::fault::Fault;
 use tables::node::{PlanRecord, Run};
-use entries::node::{Entry, ExprId, ExprNode, PlanId, Span, StoredField};
 use terms::terms::Terms;
 
 impl OpenBook {

@@ -5,9 +5,9 @@ ghost use Rattle.rewriting.specs.Book.{Answers};
 ghost use Rattle.tables.specs.Answering.{answered_plan};
 
 use super::OpenBook;
+use entries::node::PlanId;
 use plan::fault::Fault;
 use swapping::swapping::swap;
-use entries::node::PlanId;
 
 impl OpenBook {
     /// A node like `node`, with `input` in place of its input at a position. Both inputs have one origin, and the new

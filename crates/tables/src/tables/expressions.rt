@@ -15,9 +15,9 @@ ghost use Rattle.entries.specs.Spans.{stored_field, stored_in};
 ghost use Rattle.terms.specs.Views.{numbers_of};
 
 use super::Tables;
+use entries::node::{ExprId, StoredField};
 use expression::{building, calling, reusing};
 use plan::fault::Fault;
-use entries::node::{ExprId, StoredField};
 
 impl Tables {
     /// The null literal.

@@ -6,9 +6,9 @@ ghost use Rattle.std.specs.Prelude.{◌≡◌};
 
 use super::Tables;
 use crate::node::{PlanNode, PlanRecord, Run};
+use entries::node::{PlanId, Span, StoredField};
 use lexicon::lexicon::Lexicon;
 use table::table::Table;
-use entries::node::{PlanId, Span, StoredField};
 use terms::terms::Terms;
 
 impl Tables {

@@ -5,11 +5,11 @@ ghost use Rattle.tables.specs.Holding.{model_of};
 
 use super::Tables;
 use super::attempting::Attempt;
+use entries::node::ExprId;
 use expression::building;
 use lexicon::lexicon::Lexicon;
 use plan::fault::Fault;
 use std::test::Fail;
-use entries::node::ExprId;
 
 /// A text literal.
 // By the calls of `expression`, which promise that the tables begin with what there was.
