@@ -6,19 +6,22 @@
 --     Walked t w r t' x'      w is what the definition says: r stands for the expression, x' for the extractor, and no more was used than the expression's places
 --     NoRoom t e f, NoNumber w f      the expression does not fit; a number was wanted that no alias may have
 --     Answered t w r t' x'      one of these
-use Rattle.std.specs.Prelude.{◌≡◌, ℕ, ◌<◌, ◌≤◌, true, false, ◌⊎◌, Ok, Err, Result, length}
+--     walks_in t is es g, WalkedAll t w rs t' x', AnsweredAll t w r rs t' x'      the same of a list of expressions
+use Rattle.std.specs.Prelude.{◌≡◌, ℕ, ◌<◌, ◌≤◌, true, false, ◌⊎◌, List, Ok, Err, Result, length}
 use Rattle.lexicon.specs.Begun.{Begins}
+use Rattle.plan.specs.Calls.{all_below}
 use Rattle.plan.specs.Faults.{fault, refusal}
-use Rattle.plan.specs.Model.{Model, Space, Within, expr_in, fits}
+use Rattle.plan.specs.Model.{Model, Space, Within, expr_in, exprs_in, fits}
 use Rattle.plan.specs.Terms.{Expr}
 use Rattle.plan.specs.declared.fault.Fault.{Fault}
 use Rattle.plan.specs.declared.fault.Question.TheVariants.{Limited, Space as SpaceQuestion}
 use Rattle.plan.specs.declared.fault.Stage.TheVariants.{Extraction}
-use Rattle.rewriting.specs.Outlay.{tree_space}
+use Rattle.rewriting.specs.Outlay.{list_space, tree_space}
 use Rattle.rewriting.specs.Routing
-use Rattle.rewriting.specs.Routing.{routing_extract}
+use Rattle.rewriting.specs.Routing.{routing_extract, routing_extract_all}
 use Rattle.tables.specs.Holding.{model_of, nodes_of, view_in}
 use Rattle.tables.specs.declared.tables.Tables.{Tables}
+use Rattle.terms.specs.Views.{numbers_of}
 use Rattle.terms.specs.declared.node.ExprId.{ExprId}
 use Rattle.extracting.specs.Extractors.{Inside, extractor_of}
 use Rattle.extracting.specs.Owners.{owner_by}
@@ -63,3 +66,25 @@ NoNumber w f = (f ≡ fault Limited Extraction 0) × (w.1.full ≡ true)
 abbrev pub Answered : Tables → Expr × Routing.Extractor → Result ExprId Fault → Tables → Extractor → Type 0
 Answered t w (Ok r) t' x' = Walked t w r.0 t' x'
 Answered t w (Err f) t' x' = NoRoom t w.0 f ⊎ NoNumber w f
+
+pub record WalkedAll (t : Tables) (w : List Expr × Routing.Extractor) (rs : List ExprId) (t' : Tables) (x' : Extractor) : Type 0 where
+  pub present : all_below (length (view_in t').trees) (numbers_of rs) ≡ true
+  pub trees : exprs_in (view_in t').trees (numbers_of rs) ≡ w.0
+  pub extractor : extractor_of (view_in t') x' ≡ w.1
+  pub inside : Inside (view_in t') x'
+  pub few : length x'.entries ≤ length (view_in t').trees
+  pub grows : Grows (model_of t) (model_of t')
+  pub spent : Within (model_of t).used (list_space w.0) (model_of t').used
+
+abbrev pub NoRoomForAll : Tables → List Expr → Fault → Type 0
+NoRoomForAll t es f = (f ≡ refusal SpaceQuestion) × (fits (model_of t).used (list_space es) ≡ false)
+
+abbrev pub NoNumberForAll : List Expr × Routing.Extractor → Fault → Type 0
+NoNumberForAll w f = (f ≡ fault Limited Extraction 0) × (w.1.full ≡ true)
+
+abbrev pub AnsweredAll : Tables → List Expr × Routing.Extractor → Result (Unit {0}) Fault → List ExprId → Tables → Extractor → Type 0
+AnsweredAll t w (Ok v) rs t' x' = WalkedAll t w rs t' x'
+AnsweredAll t w (Err f) rs t' x' = NoRoomForAll t w.0 f ⊎ NoNumberForAll w f
+
+abbrev pub walks_in : Tables → Inputs → List Expr → Routing.Extractor → List Expr × Routing.Extractor
+walks_in t is es g = routing_extract_all (view_in t).functions (owner_by (view_in t).functions (nodes_of t) is) es g
