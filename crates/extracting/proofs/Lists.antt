@@ -1,12 +1,12 @@
 -- The walk through a list of expressions: one turn, and the end.
-use Rattle.std.proofs.Common.{◌≡◌, ℕ, ◌+◌, ◌<◌, ◌≤◌, Bool, true, false, List, [], ◌∷◌, ◌++◌, length, get_or, drop, Option, ◌⊎◌, inl, inr, sym, refl, ap, ◌∙◌, subst, append_assoc, arith}
+use Rattle.std.proofs.Common.{◌≡◌, ℕ, ◌+◌, ◌<◌, ◌≤◌, true, false, List, [], ◌∷◌, ◌++◌, length, get_or, drop, Option, ◌⊎◌, inl, inr, sym, ap, ◌∙◌, subst, append_assoc, arith}
 use Rattle.std.proofs.lemmas.List.{append-nil, get_or-map, length-map}
 use Rattle.plan.specs.Calls.{all_below}
 use Rattle.plan.specs.Functions.{Functions}
 use Rattle.plan.specs.Model.{Within, expr_in, exprs_in, fits, no_expr}
 use Rattle.plan.specs.Terms.{Expr}
 use Rattle.plan.specs.declared.fault.Fault.{Fault}
-use Rattle.rewriting.specs.Outlay.{list_space, nothing, tree_space}
+use Rattle.rewriting.specs.Outlay.{list_space, tree_space}
 use Rattle.rewriting.specs.Routing
 use Rattle.rewriting.specs.Routing.{Side, routing_extract, routing_extract_all}
 use Rattle.tables.specs.Begun.{TablesBegin}
@@ -17,7 +17,7 @@ use Rattle.terms.specs.declared.node.ExprId.{ExprId}
 use Rattle.terms.proofs.Walks.{item_below}
 use Rattle.extracting.specs.Extractors.{extractor_of}
 use Rattle.extracting.specs.Owners.{owner_by}
-use Rattle.extracting.specs.Walking.{NoNumber, NoNumberForAll, NoRoom, NoRoomForAll, Walked, WalkedAll, walk_in, walks_in}
+use Rattle.extracting.specs.Walking.{NoNumber, NoRoom, Walked, WalkedAll, walk_in, walks_in}
 use Rattle.extracting.specs.declared.extractor.Extractor.{Extractor}
 use Rattle.extracting.specs.declared.inputs.Inputs.{Inputs}
 use Rattle.extracting.proofs.Cases.{walk-same}
@@ -72,13 +72,13 @@ module _ (t : Tables) (is : Inputs) (given : List ExprId) (x : Extractor) (prese
       abbrev done : List Expr
       done = exprs_in (view_in u).trees (numbers_of made)
 
-      pub refused : (f : Fault) → NoRoom u step.0 f ⊎ NoNumber step f → NoRoomForAll t whole.0 f ⊎ NoNumberForAll whole f
-      refused f a = go (subst (λ (w : Expr × Routing.Extractor). NoRoom u w.0 f ⊎ NoNumber w f) here-is a)
+      pub refused : (f : Fault) → NoRoom u (tree_space step.0) f ⊎ NoNumber step.1 f → NoRoom t (list_space whole.0) f ⊎ NoNumber whole.1 f
+      refused f a = go (subst (λ (w : Expr × Routing.Extractor). NoRoom u (tree_space w.0) f ⊎ NoNumber w.1 f) here-is a)
         where
           are : whole ≡ (done ++ here.0 ∷ later.0, later.1)
           are = all_are F own t u u y y ts whole given made i false among k
 
-          go : NoRoom u here.0 f ⊎ NoNumber here f → NoRoomForAll t whole.0 f ⊎ NoNumberForAll whole f
+          go : NoRoom u (tree_space here.0) f ⊎ NoNumber here.1 f → NoRoom t (list_space whole.0) f ⊎ NoNumber whole.1 f
           go (inl h) =
               let e = ap (λ (r : List Expr × Routing.Extractor). list_space r.0) are ∙ ap list_space (sym (append_assoc done (here.0 ∷ []) later.0)) in
               let m = subst (λ s. AtMost s (list_space ((done ++ here.0 ∷ []) ++ later.0))) (listed-push done here.0) (first-space (done ++ here.0 ∷ []) later.0) in
