@@ -27,7 +27,7 @@ use terms::node::{ExprId, ExprNode, Run};
 use terms::terms::Terms;
 
 /// The arguments of a call, apart from the tables.
-fn listed(terms: &Terms, run: Run) -> Table<ExprId, 4>
+fn arguments_of(terms: &Terms, run: Run) -> Table<ExprId, 4>
     requires inside { run.first + run.count ≤ length (view_of terms.now).entries }
     requires few { run.count ≤ 4 }
     ensures { numbers_of result ≡ numbers_in (view_of terms.now).entries run.first run.count }
@@ -92,7 +92,7 @@ fn walk(
             if let Some(side) = taken_side(tables, inputs, e) {
                 return extractor.add_extracted(tables, side, e);
             }
-            let given = listed(tables.terms(), arguments);
+            let given = arguments_of(tables.terms(), arguments);
             let mut made: Table<ExprId, 4> = Table::new(e);
             let mut same = true;
             for argument in given.as_slice() {
