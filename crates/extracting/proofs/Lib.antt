@@ -9,3 +9,4 @@ mod Cases
 mod Turns
 mod Columned
 mod Columning
+mod Lists

@@ -88,7 +88,7 @@ listed-push (v ∷ us) u =
     space-same _ _ _ _ _ _ _ _ _ _ (omega (arith, ap (λ s. s.exprs) h)) (omega (arith, ap (λ s. s.plans) h)) (omega (arith, ap (λ s. s.entries) h)) (omega (arith, ap (λ s. s.fields) h)) (omega (arith, ap (λ s. s.bytes) h))
 
 -- the first expressions of a list take no more than all
-first-space : (us vs : List Expr) → AtMost (list_space us) (list_space (us ++ vs))
+pub first-space : (us vs : List Expr) → AtMost (list_space us) (list_space (us ++ vs))
 unfolding list_space
 first-space [] vs = record { exprs = omega arith; plans = omega arith; entries = omega arith; fields = omega arith; bytes = omega arith }
 first-space (u ∷ us) vs =

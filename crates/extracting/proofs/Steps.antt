@@ -45,7 +45,7 @@ module _ (t u u' : Tables) (x : Extractor) (w : Expr × Routing.Extractor) (made
   alias-step f (Err d) b = inl (b.0, no-room (model_of t).used (tree_space w.0) (model_of u).used (space 1 0 0 0 0) (tree_space (alias w.0 f)) a.spent (alias-space w.0 f) b.1)
 
 -- where the inside was refused
-pub alias-refused : (t : Tables) (w : Expr × Routing.Extractor) (f : Field) (d : Fault) → NoRoom t w.0 d ⊎ NoNumber w d → NoRoom t (alias w.0 f) d ⊎ NoNumber (alias w.0 f, w.1) d
+pub alias-refused : (t : Tables) (w : Expr × Routing.Extractor) (f : Field) (d : Fault) → NoRoom t (tree_space w.0) d ⊎ NoNumber w.1 d → NoRoom t (tree_space (alias w.0 f)) d ⊎ NoNumber w.1 d
 alias-refused t w f d (inl h) =
     inl (h.0, no-room (model_of t).used nothing (model_of t).used (tree_space w.0) (tree_space (alias w.0 f)) (within-same (model_of t).used nothing) (at-most-then _ _ _ (at-most-nothing (tree_space w.0)) (inside w.0)) h.1)
   where
@@ -91,7 +91,7 @@ module _ (F : Functions) (own : Expr → Option Side) (t u u' : Tables) (x x' : 
   pub needed-here : length whole.1.needed ≤ 256 → length here.1.needed ≤ 256
   needed-here h = omega (arith, h, ap (λ (r : List Expr × Routing.Extractor). length r.1.needed) all_are, all-longer F own (drop (i + 1) ts) here.1)
 
-  pub call-refused : (n : ℕ) (d : Fault) → NoRoom u here.0 d ⊎ NoNumber here d → NoRoom t (call n (arguments whole.0)) d ⊎ NoNumber (call n (arguments whole.0), whole.1) d
+  pub call-refused : (n : ℕ) (d : Fault) → NoRoom u (tree_space here.0) d ⊎ NoNumber here.1 d → NoRoom t (tree_space (call n (arguments whole.0))) d ⊎ NoNumber whole.1 d
   call-refused n d (inl h) =
       let e = ap (λ (r : List Expr × Routing.Extractor). tree_space (call n (arguments r.0))) all_are in
       inl (h.0, ap (fits (model_of t).used) e ∙ no-room (model_of t).used (list_space done) (model_of u).used (tree_space here.0) _ k.spent (part_space n done later.0 here.0) h.1)

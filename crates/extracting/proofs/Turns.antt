@@ -8,6 +8,7 @@ use Rattle.plan.specs.Model.{expr_in, exprs_in, no_expr, space}
 use Rattle.plan.specs.Terms.{Expr, arguments, sizes_of}
 use Rattle.plan.specs.Terms.Expr.{call}
 use Rattle.plan.specs.declared.fault.Fault.{Fault}
+use Rattle.rewriting.specs.Outlay.{tree_space}
 use Rattle.rewriting.specs.Routing
 use Rattle.rewriting.specs.Routing.{Side, routing_extract, routing_extract_all}
 use Rattle.tables.specs.Begun.{TablesBegin}
@@ -76,10 +77,10 @@ module _ (t : Tables) (is : Inputs) (e n : ℕ) (run : Run) (given : List ExprId
           let a = needed-here F own t u u y y ts whole given made i same among k (omega (arith, q, ap (λ (w : Expr × Routing.Extractor). length w.1.needed) whole-is)) in
           omega (arith, a, ap (λ (w : Expr × Routing.Extractor). length w.1.needed) here-is)
 
-      pub refused : (f : Fault) → NoRoom u step.0 f ⊎ NoNumber step f → NoRoom t walked.0 f ⊎ NoNumber walked f
+      pub refused : (f : Fault) → NoRoom u (tree_space step.0) f ⊎ NoNumber step.1 f → NoRoom t (tree_space walked.0) f ⊎ NoNumber walked.1 f
       refused f a =
-          let b = subst (λ (w : Expr × Routing.Extractor). NoRoom u w.0 f ⊎ NoNumber w f) here-is a in
-          subst (λ (w : Expr × Routing.Extractor). NoRoom t w.0 f ⊎ NoNumber w f) (sym whole-is) (call-refused F own t u u y y ts whole given made i same among k n f b)
+          let b = subst (λ (w : Expr × Routing.Extractor). NoRoom u (tree_space w.0) f ⊎ NoNumber w.1 f) here-is a in
+          subst (λ (w : Expr × Routing.Extractor). NoRoom t (tree_space w.0) f ⊎ NoNumber w.1 f) (sym whole-is) (call-refused F own t u u y y ts whole given made i same among k n f b)
 
       pub turn : (u' : Tables) (y' : Extractor) (part : ExprId) → Walked u step part.0 u' y' → (made' : List ExprId) → made' ≡ made ++ part ∷ [] → TablesBegin u u' → (same' : Bool) → same' ≡ (same && eqb part.0 number)
           → Partly t u' y' whole (routing_extract_all F own (drop (i + 1) ts) (extractor_of (view_in u') y')) given made' (i + 1) same'

@@ -1,5 +1,6 @@
 //! Expressions that are made anew of parts that a walk has made.
 ghost use Rattle.extracting.specs.Walking.{BuiltBy};
+ghost use Rattle.plan.specs.Calls.{all_below};
 ghost use Rattle.plan.specs.Fields.{any};
 ghost use Rattle.plan.specs.Functions.{is_total};
 ghost use Rattle.plan.specs.Model.{expr_in, exprs_in, space};
@@ -13,7 +14,6 @@ ghost use Rattle.tables.specs.Begun.{TablesBegin};
 ghost use Rattle.tables.specs.Holding.{view_in};
 ghost use Rattle.entries.specs.Spans.{stored_field, stored_in};
 ghost use Rattle.terms.specs.Views.{numbers_of};
-ghost use Rattle.plan.specs.Calls.{all_below};
 
 use entries::node::{ExprId, StoredField};
 use numbering::alias::generated;

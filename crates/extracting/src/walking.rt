@@ -2,11 +2,12 @@
 ghost use Rattle.extracting.specs.Columns.{Columned, columns_by};
 ghost use Rattle.extracting.specs.Extractors.{Inside, extractor_of, needs_of};
 ghost use Rattle.extracting.specs.Owners.{inputs_in, owner_by};
-ghost use Rattle.extracting.specs.Walking.{Answered, walk_in};
+ghost use Rattle.extracting.specs.Walking.{Answered, AnsweredAll, walk_in, walks_in};
+ghost use Rattle.plan.specs.Calls.{all_below};
 ghost use Rattle.plan.specs.Functions.{is_marked, placement_of};
-ghost use Rattle.plan.specs.Model.{expr_in};
+ghost use Rattle.plan.specs.Model.{expr_in, exprs_in};
 ghost use Rattle.routing.specs.Sides.{side_of};
-ghost use Rattle.std.specs.Prelude.{◌≡◌, ◌+◌, ◌<◌, ◌≤◌, true, ◌&&◌, None, cond, length, nat_eq, option_map, IfOk};
+ghost use Rattle.std.specs.Prelude.{◌≡◌, ◌+◌, ◌<◌, ◌≤◌, true, ◌&&◌, [], None, cond, length, nat_eq, option_map, IfOk};
 ghost use Rattle.tables.specs.Begun.{TablesBegin};
 ghost use Rattle.tables.specs.Holding.{nodes_of, plan_count, view_in};
 ghost use Rattle.terms.specs.Build.{numbers_in};
@@ -26,7 +27,7 @@ use tables::tables::Tables;
 use terms::terms::Terms;
 
 /// The arguments of a call, apart from the tables.
-fn listed(terms: &Terms, run: Run) -> Table<ExprId, 4>
+fn arguments_of(terms: &Terms, run: Run) -> Table<ExprId, 4>
     requires inside { run.first + run.count ≤ length (view_of terms.now).entries }
     requires few { run.count ≤ 4 }
     ensures { numbers_of result ≡ numbers_in (view_of terms.now).entries run.first run.count }
@@ -91,7 +92,7 @@ fn walk(
             if let Some(side) = taken_side(tables, inputs, e) {
                 return extractor.add_extracted(tables, side, e);
             }
-            let given = listed(tables.terms(), arguments);
+            let given = arguments_of(tables.terms(), arguments);
             let mut made: Table<ExprId, 4> = Table::new(e);
             let mut same = true;
             for argument in given.as_slice() {
@@ -122,4 +123,30 @@ pub fn routing_extract(
     ensures begins { TablesBegin tables.old tables.new }
 {
     walk(tables, inputs, e, extractor)
+}
+
+/// The same for each of some expressions, from left to right.
+pub fn routing_extract_all(
+    tables: &mut Tables,
+    inputs: Inputs,
+    list: &[ExprId],
+    extractor: &mut Extractor,
+    made: &mut Table<ExprId, 16>,
+) -> Result<(), Fault>
+    requires inputs { inputs_in (plan_count tables.old) inputs ≡ true }
+    requires present { all_below (length (view_in tables.old).trees) (numbers_of list.now) ≡ true }
+    requires short { length list.now ≤ 16 }
+    requires empty { made.old ≡ [] }
+    requires inside { Inside (view_in tables.old) extractor.old }
+    requires few { length extractor.old.entries ≤ length (view_in tables.old).trees }
+    requires columns { Columned (columns_by (view_in tables.old).functions (nodes_of tables.old) inputs) (needs_of (view_in tables.old) extractor.old) }
+    ensures answer { AnsweredAll tables.old (walks_in tables.old inputs (exprs_in (view_in tables.old).trees (numbers_of list.now)) (extractor_of (view_in tables.old) extractor.old)) result made.new tables.new extractor.new }
+    ensures columns { IfOk result (λ _. Columned (columns_by (view_in tables.new).functions (nodes_of tables.new) inputs) (needs_of (view_in tables.new) extractor.new)) }
+    ensures begins { TablesBegin tables.old tables.new }
+{
+    for e in list {
+        let part = routing_extract(tables, inputs, *e, extractor)?;
+        made.push(part);
+    }
+    Ok(())
 }

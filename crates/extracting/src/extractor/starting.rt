@@ -3,7 +3,7 @@ ghost use Rattle.extracting.specs.Columns.{Columned};
 ghost use Rattle.extracting.specs.Extractors.{Inside, extractor_of, needs_of};
 ghost use Rattle.plan.specs.Terms.{Field};
 ghost use Rattle.rewriting.specs.Routing.{Side as InputSide, empty_extractor};
-ghost use Rattle.std.specs.Prelude.{◌≡◌, List};
+ghost use Rattle.std.specs.Prelude.{◌≡◌, List, []};
 ghost use Rattle.terms.specs.Views.{View};
 
 use super::{Extracted, Extractor, Needed};
@@ -17,6 +17,7 @@ impl Extractor {
     pub fn starting_at(next: u32) -> Extractor
         ensures value { (v : View) → extractor_of v result ≡ empty_extractor next }
         ensures inside { (v : View) → Inside v result }
+        ensures entries { result.entries ≡ [] }
         ensures columns { (v : View) → (cs : List (InputSide × Field)) → Columned cs (needs_of v result) }
     {
         let entry = Extracted {
