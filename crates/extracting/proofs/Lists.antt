@@ -13,7 +13,7 @@ use Rattle.tables.specs.Begun.{TablesBegin}
 use Rattle.tables.specs.Holding.{model_of, nodes_of, view_in}
 use Rattle.tables.specs.declared.tables.Tables.{Tables}
 use Rattle.terms.specs.Views.{numbers_of}
-use Rattle.terms.specs.declared.node.ExprId.{ExprId}
+use Rattle.entries.specs.declared.node.ExprId.{ExprId}
 use Rattle.terms.proofs.Walks.{item_below}
 use Rattle.extracting.specs.Extractors.{extractor_of}
 use Rattle.extracting.specs.Owners.{owner_by}

@@ -2,7 +2,7 @@ use Rattle.std.proofs.Common.{◌≡◌, Err, sym, subst, arith, rules}
 use Rattle.plan.specs.Model.{exprs_in}
 use Rattle.tables.specs.Holding.{view_in}
 use Rattle.terms.specs.Views.{numbers_of}
-use Rattle.terms.specs.declared.node.ExprId.{ExprId}
+use Rattle.entries.specs.declared.node.ExprId.{ExprId}
 use Rattle.extracting.specs.Extractors.{extractor_of}
 use Rattle.extracting.specs.Walking.{AnsweredAll, walks_in}
 use Rattle.extracting.proofs.Cases.{inputs-stay}
