@@ -23,7 +23,7 @@ use Rattle.tables.specs.Holding.{model_of}
 use Rattle.tables.specs.Reusing.{Reused}
 use Rattle.tables.specs.declared.tables.Tables.{Tables}
 use Rattle.entries.specs.declared.node.ExprId.{ExprId}
-use Rattle.extracting.specs.Walking.{Built, BuiltBy, Grows}
+use Rattle.extracting.specs.Walking.{Built, BuiltBy}
 use Rattle.extracting.proofs.Growing.{added-grows, made-grows}
 use Rattle.extracting.proofs.Spaces.{within-plus}
 

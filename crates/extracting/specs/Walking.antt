@@ -21,6 +21,7 @@ use Rattle.rewriting.specs.Routing
 use Rattle.rewriting.specs.Routing.{routing_extract, routing_extract_all}
 use Rattle.tables.specs.Holding.{model_of, nodes_of, view_in}
 use Rattle.tables.specs.declared.tables.Tables.{Tables}
+use Rattle.terms.specs.Views.{numbers_of}
 use Rattle.entries.specs.declared.node.ExprId.{ExprId}
 use Rattle.extracting.specs.Extractors.{Inside, extractor_of}
 use Rattle.extracting.specs.Owners.{owner_by}
