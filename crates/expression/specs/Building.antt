@@ -3,9 +3,11 @@
 --     roomy v s      the tables of expressions have room for so much more
 --     Grew v c r v', Kept v c f v'      a call that made an expression; a call that was refused
 --     Answered v c r v'      either
+--     given_field, given_literal      a field and a literal as a caller gives them
 use Rattle.std.specs.Prelude.{◌≡◌, ℕ, ◌+◌, Bool, ◌&&◌, List, [], ◌∷◌, ◌++◌, length, Some, None, Ok, Err, Option, Result, nat_le}
 use Rattle.std.specs.Borrow.{Bor}
-use Rattle.plan.specs.Terms.{Field, Qualifier}
+use Rattle.plan.specs.Terms.{Field, Literal, Qualifier}
+use Rattle.plan.specs.Terms.Literal.{null, truth, whole, real, text}
 use Rattle.plan.specs.Terms.Qualifier.{unqualified, qualified}
 use Rattle.plan.specs.Faults.{Asked, first_no, refusal}
 use Rattle.plan.specs.Model.{Space, space, Model}
@@ -15,6 +17,8 @@ use Rattle.plan.specs.declared.fault.Question.TheVariants.{Space as SpaceQuestio
 use Rattle.terms.specs.Views.{View, grown}
 use Rattle.entries.specs.declared.node.Entry.{Entry}
 use Rattle.entries.specs.declared.node.ExprId.{ExprId}
+use Rattle.expression.specs.declared.building.GivenLiteral.{GivenLiteral}
+use Rattle.expression.specs.declared.building.GivenLiteral.TheVariants.{Null, Truth, Whole, Real, Text}
 
 abbrev pub bare : View → Model
 bare v = record { functions = v.functions; exprs = v.trees; plans = []; inputs = []; text = v.bytes; used = space 0 0 0 0 0 }
@@ -54,3 +58,11 @@ given_field name q = record { qualifier = given_qualifier q; name = name }
 abbrev pub qualifier_text : Qualifier → List ℕ
 qualifier_text unqualified = []
 qualifier_text (qualified q) = q
+
+-- a literal as a caller gives it
+abbrev pub given_literal : GivenLiteral → Literal
+given_literal Null = null
+given_literal (Truth b) = truth b
+given_literal (Whole n) = whole n
+given_literal (Real x) = real x
+given_literal (Text bytes) = text bytes.now

@@ -5,10 +5,10 @@ ghost use Rattle.plan.specs.Calls.Call.{make_alias, make_literal, make_reference
 ghost use Rattle.plan.specs.Calls.{good_alias, good_field, qualifier_bytes};
 ghost use Rattle.plan.specs.Faults.{Decided};
 ghost use Rattle.plan.specs.Model.{space};
-ghost use Rattle.plan.specs.Terms.Literal.{null as null_literal, real as real_literal, text as text_literal, truth as truth_literal, whole as whole_literal};
+ghost use Rattle.plan.specs.Terms.Literal.{text as text_literal};
 ghost use Rattle.plan.specs.declared.fault.Question.TheVariants.{Space as SpaceQuestion};
 ghost use Rattle.terms.specs.Begun.{TermsBegin};
-ghost use Rattle.expression.specs.Building.{Answered, given_field, given_qualifier, qualifier_text, roomy};
+ghost use Rattle.expression.specs.Building.{Answered, given_field, given_literal, given_qualifier, qualifier_text, roomy};
 ghost use Rattle.plan.specs.Rendering.{dotted, rendered_literal};
 ghost use Rattle.entries.specs.Spans.{literal_at, plain_literal, stored_field, stored_in};
 ghost use Rattle.terms.specs.Views.{count, grown, tree_of, view_of};
@@ -17,6 +17,16 @@ use entries::node::{ExprId, ExprNode, Literal, StoredField};
 use names::{good_name, is_prefixed, signed_len};
 use plan::fault::{Fault, Question, ask};
 use terms::terms::Terms;
+
+/// A literal, as a caller gives it.
+#[derive(Clone, Copy)]
+pub enum GivenLiteral<'a> {
+    Null,
+    Truth(bool),
+    Whole(i64),
+    Real(f64),
+    Text(&'a [u8]),
+}
 
 /// A name and a qualifier, as a caller gives them.
 #[derive(Clone, Copy)]
@@ -109,40 +119,8 @@ fn constant(terms: &mut Terms, l: Literal, width: u32) -> Result<ExprId, Fault>
     Ok(terms.add(ExprNode::Constant(l), 1, width))
 }
 
-/// The null literal.
-pub fn null(terms: &mut Terms) -> Result<ExprId, Fault>
-    ensures answer { Answered (view_of terms.old) (make_literal null_literal) result (view_of terms.new) }
-    ensures begins { TermsBegin terms.old terms.new }
-{
-    constant(terms, Literal::Null, 4)
-}
-
-/// A truth literal.
-pub fn truth(terms: &mut Terms, b: bool) -> Result<ExprId, Fault>
-    ensures answer { Answered (view_of terms.old) (make_literal (truth_literal b)) result (view_of terms.new) }
-    ensures begins { TermsBegin terms.old terms.new }
-{
-    constant(terms, Literal::Truth(b), if b { 4 } else { 5 })
-}
-
-/// A whole number.
-pub fn whole(terms: &mut Terms, n: i64) -> Result<ExprId, Fault>
-    ensures answer { Answered (view_of terms.old) (make_literal (whole_literal n)) result (view_of terms.new) }
-    ensures begins { TermsBegin terms.old terms.new }
-{
-    constant(terms, Literal::Whole(n), signed_len(n) as u32)
-}
-
-/// A real.
-pub fn real(terms: &mut Terms, x: f64) -> Result<ExprId, Fault>
-    ensures answer { Answered (view_of terms.old) (make_literal (real_literal x)) result (view_of terms.new) }
-    ensures begins { TermsBegin terms.old terms.new }
-{
-    constant(terms, Literal::Real(x), 16)
-}
-
-/// A text literal.
-pub fn text(terms: &mut Terms, bytes: &[u8]) -> Result<ExprId, Fault>
+/// Adds a literal that is a text.
+fn text(terms: &mut Terms, bytes: &[u8]) -> Result<ExprId, Fault>
     ensures answer { Answered (view_of terms.old) (make_literal (text_literal bytes.now)) result (view_of terms.new) }
     ensures begins { TermsBegin terms.old terms.new }
 {
@@ -154,6 +132,20 @@ pub fn text(terms: &mut Terms, bytes: &[u8]) -> Result<ExprId, Fault>
         1,
         bytes.len() as u32,
     ))
+}
+
+/// A literal.
+pub fn literal(terms: &mut Terms, given: GivenLiteral<'_>) -> Result<ExprId, Fault>
+    ensures answer { Answered (view_of terms.old) (make_literal (given_literal given.entry)) result (view_of terms.new) }
+    ensures begins { TermsBegin terms.old terms.new }
+{
+    match given {
+        GivenLiteral::Null => constant(terms, Literal::Null, 4),
+        GivenLiteral::Truth(b) => constant(terms, Literal::Truth(b), if b { 4 } else { 5 }),
+        GivenLiteral::Whole(n) => constant(terms, Literal::Whole(n), signed_len(n) as u32),
+        GivenLiteral::Real(x) => constant(terms, Literal::Real(x), 16),
+        GivenLiteral::Text(bytes) => text(terms, bytes),
+    }
 }
 
 /// A reference to a column.

@@ -10,6 +10,7 @@ ghost use Rattle.terms.specs.Views.{numbers_of};
 
 use super::OpenBook;
 use entries::node::ExprId;
+use expression::building::GivenLiteral;
 use plan::fault::Fault;
 
 impl OpenBook {
@@ -17,35 +18,35 @@ impl OpenBook {
     pub fn null(&mut self) -> Result<ExprId, Fault>
         ensures { Answers (book_of self.old) (build (make_literal null_literal)) (answered_expr result) (book_of self.new) }
     {
-        self.tables.null()
+        self.tables.literal(GivenLiteral::Null)
     }
 
     /// A truth literal.
     pub fn truth(&mut self, b: bool) -> Result<ExprId, Fault>
         ensures { Answers (book_of self.old) (build (make_literal (truth_literal b))) (answered_expr result) (book_of self.new) }
     {
-        self.tables.truth(b)
+        self.tables.literal(GivenLiteral::Truth(b))
     }
 
     /// A whole number.
     pub fn whole(&mut self, n: i64) -> Result<ExprId, Fault>
         ensures { Answers (book_of self.old) (build (make_literal (whole_literal n))) (answered_expr result) (book_of self.new) }
     {
-        self.tables.whole(n)
+        self.tables.literal(GivenLiteral::Whole(n))
     }
 
     /// A real.
     pub fn real(&mut self, x: f64) -> Result<ExprId, Fault>
         ensures { Answers (book_of self.old) (build (make_literal (real_literal x))) (answered_expr result) (book_of self.new) }
     {
-        self.tables.real(x)
+        self.tables.literal(GivenLiteral::Real(x))
     }
 
     /// A text literal.
     pub fn text(&mut self, bytes: &[u8]) -> Result<ExprId, Fault>
         ensures { Answers (book_of self.old) (build (make_literal (text_literal bytes.now))) (answered_expr result) (book_of self.new) }
     {
-        self.tables.text(bytes)
+        self.tables.literal(GivenLiteral::Text(bytes))
     }
 
     /// A reference to a column.

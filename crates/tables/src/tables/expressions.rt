@@ -9,55 +9,23 @@ ghost use Rattle.plan.specs.Calls.{Answers, good_alias, good_field};
 ghost use Rattle.plan.specs.Model.{expr_in};
 ghost use Rattle.plan.specs.Questions.{small_tree};
 ghost use Rattle.plan.specs.Terms.Expr.{alias as alias_tree, reference as reference_tree};
-ghost use Rattle.plan.specs.Terms.Literal.{null as null_literal, real as real_literal, text as text_literal, truth as truth_literal, whole as whole_literal};
-ghost use Rattle.expression.specs.Building.{given_field};
+ghost use Rattle.expression.specs.Building.{given_field, given_literal};
 ghost use Rattle.entries.specs.Spans.{stored_field, stored_in};
 ghost use Rattle.terms.specs.Views.{numbers_of};
 
 use super::Tables;
 use entries::node::{ExprId, StoredField};
+use expression::building::GivenLiteral;
 use expression::{building, calling, reusing};
 use plan::fault::Fault;
 
 impl Tables {
-    /// The null literal.
-    pub fn null(&mut self) -> Result<ExprId, Fault>
-        ensures answer { Answers (model_of self.old) (make_literal null_literal) (answered_expr result) (model_of self.new) }
+    /// A literal.
+    pub fn literal(&mut self, given: GivenLiteral<'_>) -> Result<ExprId, Fault>
+        ensures answer { Answers (model_of self.old) (make_literal (given_literal given.entry)) (answered_expr result) (model_of self.new) }
         ensures begins { TablesBegin self.old self.new }
     {
-        building::null(&mut self.terms)
-    }
-
-    /// A truth literal.
-    pub fn truth(&mut self, b: bool) -> Result<ExprId, Fault>
-        ensures answer { Answers (model_of self.old) (make_literal (truth_literal b)) (answered_expr result) (model_of self.new) }
-        ensures begins { TablesBegin self.old self.new }
-    {
-        building::truth(&mut self.terms, b)
-    }
-
-    /// A whole number.
-    pub fn whole(&mut self, n: i64) -> Result<ExprId, Fault>
-        ensures answer { Answers (model_of self.old) (make_literal (whole_literal n)) (answered_expr result) (model_of self.new) }
-        ensures begins { TablesBegin self.old self.new }
-    {
-        building::whole(&mut self.terms, n)
-    }
-
-    /// A real.
-    pub fn real(&mut self, x: f64) -> Result<ExprId, Fault>
-        ensures answer { Answers (model_of self.old) (make_literal (real_literal x)) (answered_expr result) (model_of self.new) }
-        ensures begins { TablesBegin self.old self.new }
-    {
-        building::real(&mut self.terms, x)
-    }
-
-    /// A text literal.
-    pub fn text(&mut self, bytes: &[u8]) -> Result<ExprId, Fault>
-        ensures answer { Answers (model_of self.old) (make_literal (text_literal bytes.now)) (answered_expr result) (model_of self.new) }
-        ensures begins { TablesBegin self.old self.new }
-    {
-        building::text(&mut self.terms, bytes)
+        building::literal(&mut self.terms, given)
     }
 
     /// A reference to a column.

@@ -6,7 +6,7 @@ ghost use Rattle.tables.specs.Holding.{model_of};
 use super::Tables;
 use super::attempting::Attempt;
 use entries::node::ExprId;
-use expression::building;
+use expression::building::{self, GivenLiteral};
 use lexicon::lexicon::Lexicon;
 use plan::fault::Fault;
 use std::test::Fail;
@@ -16,7 +16,7 @@ use std::test::Fail;
 fn text(tables: &mut Tables, bytes: &[u8]) -> Result<ExprId, Fault>
     ensures { TablesBegin tables.old tables.new }
 {
-    building::text(&mut tables.terms, bytes)
+    building::literal(&mut tables.terms, GivenLiteral::Text(bytes))
 }
 
 /// An alias.

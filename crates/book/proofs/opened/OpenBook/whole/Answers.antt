@@ -16,8 +16,8 @@ said : (m m' : Model) (r : Result ExprId Fault) (n k : ℤ) → k ≡ n → Answ
 said m m' r n k e a = subst (λ x. Answers m (build (make_literal (whole_literal x))) (answered_expr r) m') e a
 
 pub invariant_of-self : goal.invariant_of-self
-invariant_of-self c = record { reached = reached-further _ _ (build _) _ c.args.self.now.reached c.whole.ensures.answer }
+invariant_of-self c = record { reached = reached-further _ _ (build _) _ c.args.self.now.reached c.literal.ensures.answer }
 
 pub returns : goal.returns
 returns c =
-    said (model_of c.args.self.now.tables) (model_of c.whole.new.self) c.whole.result c.args.n _ (to_z-of_z w64 c.args.n c.ranges.n) c.whole.ensures.answer
+    said (model_of c.args.self.now.tables) (model_of c.literal.new.self) c.literal.result c.args.n _ (to_z-of_z w64 c.args.n c.ranges.n) c.literal.ensures.answer

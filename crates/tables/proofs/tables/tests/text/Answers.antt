@@ -6,4 +6,4 @@ use Rattle.tables.proofs.tables.tests.text.Goals as goal
 
 pub invariant_of-tables : goal.invariant_of-tables
 invariant_of-tables c =
-    still-held c.args.tables.now (view_of c.text.new.terms) (make_literal (text_literal c.args.bytes.now)) c.text.result c.text.ensures.answer
+    still-held c.args.tables.now (view_of c.literal.new.terms) (make_literal (text_literal c.args.bytes.now)) c.literal.result c.literal.ensures.answer
