@@ -1,6 +1,7 @@
 -- A Sort's keys, as a caller gives them and as the node holds them.
-use Rattle.std.proofs.Common.{◌≡◌, ℕ, ◌<◌, true, not, ◌&&◌, List, [], ◌∷◌, ◌++◌, map, length, get_or, is_some, sym, refl, ap, ◌∙◌, ap₂, arith, Bor}
-use Rattle.std.proofs.lemmas.List.{get_or-map, length-map}
+use Rattle.std.proofs.Common.{◌≡◌, ℕ, true, not, ◌&&◌, List, [], ◌∷◌, ◌++◌, map, length, is_some, sym, refl, ap, ◌∙◌, ap₂, Bor}
+use Rattle.std.proofs.lemmas.List.{length-map}
+use Rattle.std.proofs.lemmas.Simd.{map-map}
 use Rattle.plan.specs.Calls.Call.{make_sort}
 use Rattle.plan.specs.Calls.{below, all_below, between, key_in, node_outlay}
 use Rattle.plan.specs.Codes.{direction_of}
@@ -13,7 +14,6 @@ use Rattle.plan.specs.Questions.{node_asked}
 use Rattle.plan.specs.Terms.{Expr}
 use Rattle.plan.specs.declared.fault.Question.TheVariants.{Present, Bounded, Placed}
 use Rattle.entries.specs.declared.node.PlanId.{PlanId}
-use Rattle.terms.proofs.Walks.{item_below}
 use Rattle.tables.specs.Holding.{view_in, trees_in, plan_count}
 use Rattle.building.specs.Keys.{key_pair, key_pairs, sort_key}
 use Rattle.tables.specs.Making.{new_key, key_numbers}
@@ -23,10 +23,9 @@ use Rattle.tables.specs.declared.node.SortKey.{SortKey}
 use Rattle.tables.specs.declared.tables.Tables.{Tables}
 use Rattle.building.proofs.NodeAnswers.{Makes}
 
--- a key of a list whose expressions all stand in the book
-pub given_below : (n : ℕ) (ks : List Key) (i : ℕ) (d : Key) → i < length ks → all_below n (map (λ k. k.0) (key_pairs ks)) ≡ true → (get_or ks i d).by.0 < n
-given_below n ks i d lt h =
-    omega (arith, ap (λ k. k.0) (get_or-map key_pair ks i d (key_pair d) lt), item_below (λ k. k.0) n (key_pairs ks) i (key_pair d) (omega (arith, length-map ks key_pair)) h)
+-- the expressions of some keys are below a number, be they asked of the keys or of their pairs
+pub keys_below : (n : ℕ) (ks : List Key) → all_below n (map (λ k. k.0) (key_pairs ks)) ≡ true → all_below n (map (λ k. k.by.0) ks) ≡ true
+keys_below n ks h = ap (all_below n) (sym (map-map (λ k. k.0) key_pair ks)) ∙ h
 
 pub sorted-numbers : (ks : List Key) → key_numbers (map sort_key ks) ≡ map (λ k. k.0) (key_pairs ks)
 sorted-numbers [] = refl

@@ -40,13 +40,13 @@ pub(crate) fn is_count(low: usize, high: usize, count: usize) -> bool
 fn has_list(tables: &Tables, input: PlanId, ids: &[ExprId]) -> bool
     ensures { result ≡ (below (plan_count tables.now) input.0 && all_below (length (view_in tables.now).trees) (numbers_of ids.now)) }
 {
-    tables.has(input) && tables.holds_all(ids)
+    tables.has(input) && tables.terms().has_all(ids)
 }
 
 fn has_expr(tables: &Tables, input: PlanId, e: ExprId) -> bool
     ensures { result ≡ (below (plan_count tables.now) input.0 && below (length (view_in tables.now).trees) e.0) }
 {
-    tables.has(input) && tables.holds(e)
+    tables.has(input) && tables.terms().has(e)
 }
 
 /// A Table: a qualifier, and the names of its fields parted by commas.
@@ -64,7 +64,7 @@ pub fn projection(tables: &mut Tables, input: PlanId, list: &[ExprId]) -> Result
 {
     ask(has_list(tables, input, list), Question::Present)?;
     ask(is_count(1, 64, list.len()), Question::Bounded)?;
-    ask(!tables.any_total(list), Question::Placed)?;
+    ask(!tables.terms().any_total(list), Question::Placed)?;
     make(tables, NewNode::Projection { input, list })
 }
 
@@ -73,7 +73,7 @@ pub fn filter(tables: &mut Tables, input: PlanId, predicate: ExprId) -> Result<P
     ensures { Answers (model_of tables.old) (make_filter input.0 predicate.0) (answered_plan result) (model_of tables.new) }
 {
     ask(has_expr(tables, input, predicate), Question::Present)?;
-    ask(!tables.is_total(predicate), Question::Placed)?;
+    ask(!tables.terms().is_total(predicate), Question::Placed)?;
     make(tables, NewNode::Filter { input, predicate })
 }
 

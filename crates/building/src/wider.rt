@@ -28,7 +28,7 @@ fn all_total(tables: &Tables, ids: &[ExprId]) -> bool
     requires { all_below (length (view_in tables.now).trees) (numbers_of ids.now) ≡ true }
     ensures { result ≡ every (is_total (view_in tables.now).functions) (exprs_in (view_in tables.now).trees (numbers_of ids.now)) }
 {
-    ids.iter().all(|id| tables.is_total(*id))
+    ids.iter().all(|id| tables.terms().is_total(*id))
 }
 
 /// Whether there are at most 16 groups and at most 16 totals, and at least one together.
@@ -42,7 +42,7 @@ fn are_few(groups: usize, totals: usize) -> bool
 fn has_lists(tables: &Tables, input: PlanId, groups: &[ExprId], totals: &[ExprId]) -> bool
     ensures { result ≡ (below (plan_count tables.now) input.0 && (all_below (length (view_in tables.now).trees) (numbers_of groups.now) && all_below (length (view_in tables.now).trees) (numbers_of totals.now))) }
 {
-    tables.has(input) && (tables.holds_all(groups) && tables.holds_all(totals))
+    tables.has(input) && (tables.terms().has_all(groups) && tables.terms().has_all(totals))
 }
 
 /// Whether no group is a total, and every total is one.
@@ -51,7 +51,7 @@ fn are_placed(tables: &Tables, groups: &[ExprId], totals: &[ExprId]) -> bool
     requires totals { all_below (length (view_in tables.now).trees) (numbers_of totals.now) ≡ true }
     ensures { result ≡ (not (any (is_total (view_in tables.now).functions) (exprs_in (view_in tables.now).trees (numbers_of groups.now))) && every (is_total (view_in tables.now).functions) (exprs_in (view_in tables.now).trees (numbers_of totals.now))) }
 {
-    !tables.any_total(groups) && all_total(tables, totals)
+    !tables.terms().any_total(groups) && all_total(tables, totals)
 }
 
 /// An Aggregate: at most 16 groups and at most 16 totals, and at least one together.
@@ -80,7 +80,7 @@ pub fn aggregate<'x>(
 fn has_sides(tables: &Tables, left: PlanId, right: PlanId, on: &[ExprId]) -> bool
     ensures { result ≡ ((below (plan_count tables.now) left.0 && below (plan_count tables.now) right.0) && all_below (length (view_in tables.now).trees) (numbers_of on.now)) }
 {
-    (tables.has(left) && tables.has(right)) && tables.holds_all(on)
+    (tables.has(left) && tables.has(right)) && tables.terms().has_all(on)
 }
 
 /// A Join by the kind of this number, on at most 16 conditions.
@@ -97,7 +97,7 @@ pub fn join(
     ask(has_sides(tables, left, right, on), Question::Present)?;
     let kind = JoinKind::try_from(kind)?;
     ask(on.len() <= 16, Question::Bounded)?;
-    ask(!tables.any_total(on), Question::Placed)?;
+    ask(!tables.terms().any_total(on), Question::Placed)?;
     make(
         tables,
         NewNode::Join {
@@ -171,7 +171,7 @@ fn sort_keys(keys: &[Key]) -> Result<Table<SortKey, 16>, UnknownCode>
 fn has_keys(tables: &Tables, keys: &[Key]) -> bool
     ensures { result ≡ all_below (length (view_in tables.now).trees) (map (λ k. k.0) (key_pairs keys.now)) }
 {
-    keys.iter().all(|key| tables.holds(key.by))
+    keys.iter().all(|key| tables.terms().has(key.by))
 }
 
 /// Whether a node and the expressions of some keys stand in the book.
@@ -186,7 +186,7 @@ fn any_key_total(tables: &Tables, keys: &[Key]) -> bool
     requires { all_below (length (view_in tables.now).trees) (map (λ k. k.0) (key_pairs keys.now)) ≡ true }
     ensures { result ≡ any (is_total (view_in tables.now).functions) (exprs_in (view_in tables.now).trees (map (λ k. k.0) (key_pairs keys.now))) }
 {
-    keys.iter().any(|key| tables.is_total(key.by))
+    keys.iter().any(|key| tables.terms().is_total(key.by))
 }
 
 /// A Sort by 1 to 16 keys.

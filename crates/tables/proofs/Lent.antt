@@ -1,9 +1,10 @@
 -- The terms of the tables, lent: what a call says of them, it says of the tables; cited by the crates above.
 use Rattle.std.proofs.Common.{◌≡◌, ℕ, true, List, length, sum_by, ap, ◌∙◌, subst}
 use Rattle.table.specs.Contents.{part}
-use Rattle.plan.specs.Fields.{every}
+use Rattle.plan.specs.Fields.{any, every}
+use Rattle.plan.specs.Functions.{is_total}
 use Rattle.plan.specs.Questions.{short_name}
-use Rattle.plan.specs.Model.{exprs_in}
+use Rattle.plan.specs.Model.{expr_in, exprs_in}
 use Rattle.plan.specs.Calls.{all_below, rendered_bytes}
 use Rattle.names.specs.Spans.{word}
 use Rattle.names.specs.declared.parts.Span.{Span}
@@ -19,6 +20,12 @@ use Rattle.tables.specs.declared.tables.Tables.{Tables}
 module _ (t : Tables) (s : Terms) (e : s ≡ t.terms) where
   pub present-lent : (ns : List ℕ) → all_below (length (view_in t).trees) ns ≡ true → all_below (count s) ns ≡ true
   present-lent ns h = ap (λ x. all_below (count x) ns) e ∙ h
+
+  pub total-lent : (i : ℕ) → is_total (view_of s).functions (expr_in (view_of s).trees i) ≡ is_total (view_in t).functions (expr_in (view_in t).trees i)
+  total-lent i = ap (λ x. is_total (view_of x).functions (expr_in (view_of x).trees i)) e
+
+  pub totals-lent : (ns : List ℕ) → any (is_total (view_of s).functions) (exprs_in (view_of s).trees ns) ≡ any (is_total (view_in t).functions) (exprs_in (view_in t).trees ns)
+  totals-lent ns = ap (λ x. any (is_total (view_of x).functions) (exprs_in (view_of x).trees ns)) e
 
   pub short-lent : (ns : List ℕ) → every (short_name (view_of s).functions) (exprs_in (view_of s).trees ns) ≡ every (short_name (view_in t).functions) (exprs_in (view_in t).trees ns)
   short-lent ns = ap (λ x. every (short_name (view_of x).functions) (exprs_in (view_of x).trees ns)) e

@@ -1,18 +1,16 @@
 //! What is asked of nodes and of expressions.
 ghost use Rattle.std.specs.Prelude.{◌≡◌, ◌+◌, ◌<◌, ◌≤◌, true, map, length};
-ghost use Rattle.plan.specs.Model.{expr_in, exprs_in, origin_at};
+ghost use Rattle.plan.specs.Model.{origin_at};
 ghost use Rattle.tables.specs.Holding.{fields_at, model_of, plan_count, tree_in, view_in};
 ghost use Rattle.tables.specs.Reading.{ReadsAs};
-ghost use Rattle.plan.specs.Calls.{all_below, below};
-ghost use Rattle.plan.specs.Fields.{any, every};
-ghost use Rattle.plan.specs.Functions.{is_total};
+ghost use Rattle.plan.specs.Calls.{below};
+ghost use Rattle.plan.specs.Fields.{every};
 ghost use Rattle.plan.specs.Plans.{plan_size_of};
 ghost use Rattle.entries.specs.Spans.{stored_field, stored_in};
-ghost use Rattle.terms.specs.Views.{numbers_of};
 
 use super::Tables;
 use crate::node::PlanRecord;
-use entries::node::{ExprId, PlanId, StoredField};
+use entries::node::{PlanId, StoredField};
 use terms::terms::Terms;
 
 // That a node or an expression is there is a clause of each call: a number says nothing of the tables, which grow.
@@ -87,35 +85,5 @@ impl Tables {
         ensures { result ≡ length (model_of self.now).exprs }
     {
         self.terms.len()
-    }
-
-    /// Whether an expression stands in the book.
-    pub fn holds(&self, e: ExprId) -> bool
-        ensures { result ≡ below (length (view_in self.now).trees) e.0 }
-    {
-        self.terms.has(e)
-    }
-
-    /// Whether some expressions stand in the book.
-    pub fn holds_all(&self, ids: &[ExprId]) -> bool
-        ensures { result ≡ all_below (length (view_in self.now).trees) (numbers_of ids.now) }
-    {
-        self.terms.has_all(ids)
-    }
-
-    /// Whether an expression is a total.
-    pub fn is_total(&self, e: ExprId) -> bool
-        requires { e.0 < length (view_in self.now).trees }
-        ensures { result ≡ is_total (view_in self.now).functions (expr_in (view_in self.now).trees e.0) }
-    {
-        self.terms.is_total(e)
-    }
-
-    /// Whether one of some expressions is a total.
-    pub fn any_total(&self, ids: &[ExprId]) -> bool
-        requires { all_below (length (view_in self.now).trees) (numbers_of ids.now) ≡ true }
-        ensures { result ≡ any (is_total (view_in self.now).functions) (exprs_in (view_in self.now).trees (numbers_of ids.now)) }
-    {
-        self.terms.any_total(ids)
     }
 }

@@ -1,17 +1,17 @@
-use Rattle.std.proofs.Common.{ap, ◌∙◌, arith, rules, tests}
+use Rattle.std.proofs.Common.{length, ◌∙◌, rules, tests}
 use Rattle.std.proofs.lemmas.Iterator.{YieldsList-from_slice}
-use Rattle.std.proofs.lemmas.Iterator.Adapters.{serves_from_places}
 use Rattle.std.proofs.lemmas.Iterator.Search.{all_from_yields_List}
 use Rattle.plan.specs.Functions.{is_total}
 use Rattle.plan.specs.Model.{expr_in}
 use Rattle.tables.specs.Holding.{view_in}
 use Rattle.entries.specs.declared.node.ExprId.{ExprId}
-use Rattle.terms.proofs.Walks.{every-twice, item_below}
+use Rattle.terms.proofs.Walks.{every-twice, serves_low}
 use Rattle.building.proofs.wider.all_total.Goals as goal
 
 pub all-requires-clause-callable : goal.all-requires-clause-callable
 all-requires-clause-callable c =
-    serves_from_places (YieldsList-from_slice c.args.ids.now c.iter.ensures.rest) (λ x q r. search (rules, tests)) (λ x k lt e. omega (arith, item_below (λ y. y.0) _ _ k x.now lt c.requires, ap (λ y. y.0) e))
+    let n = length (view_in c.args.tables.now).trees in
+    serves_low (λ y. y.0) n (YieldsList-from_slice c.args.ids.now c.iter.ensures.rest) c.requires (λ x q k. search rules) (λ x h. search rules)
 
 pub returns : goal.returns
 returns c =

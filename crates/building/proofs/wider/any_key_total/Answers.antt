@@ -1,19 +1,20 @@
-use Rattle.std.proofs.Common.{map, ap, ◌∙◌, arith, rules, tests}
+use Rattle.std.proofs.Common.{map, length, ◌∙◌, rules, tests}
 use Rattle.std.proofs.lemmas.Iterator.{YieldsList-from_slice}
-use Rattle.std.proofs.lemmas.Iterator.Adapters.{serves_from_places}
 use Rattle.std.proofs.lemmas.Iterator.Search.{any_from_yields_List}
 use Rattle.plan.specs.Functions.{is_total}
 use Rattle.plan.specs.Model.{expr_in}
 use Rattle.tables.specs.Holding.{view_in}
 use Rattle.tables.specs.declared.node.Key.{Key}
-use Rattle.terms.proofs.Walks.{any-moved, any-twice}
+use Rattle.terms.proofs.Walks.{any-moved, any-twice, serves_low}
 use Rattle.building.specs.Keys.{key_pair, key_pairs}
-use Rattle.building.proofs.SortFacts.{given_below}
+use Rattle.building.proofs.SortFacts.{keys_below}
 use Rattle.building.proofs.wider.any_key_total.Goals as goal
 
 pub any-requires-clause-callable : goal.any-requires-clause-callable
 any-requires-clause-callable c =
-    serves_from_places (YieldsList-from_slice c.args.keys.now c.iter.ensures.rest) (λ x q r. search (rules, tests)) (λ x k lt e. omega (arith, given_below _ _ k x.now lt c.requires, ap (λ y. y.by.0) e))
+    let n = length (view_in c.args.tables.now).trees in
+    let keys = c.args.keys.now in
+    serves_low (λ k. k.by.0) n (YieldsList-from_slice keys c.iter.ensures.rest) (keys_below n keys c.requires) (λ x q k. search rules) (λ x h. search rules)
 
 pub returns : goal.returns
 returns c =
