@@ -23,11 +23,11 @@ use Rattle.names.specs.declared.parts.Span.{Span}
 use Rattle.draft.specs.Drafts.{as_stored, as_owned, as_bare, as_column, draft_field, draft_in, draft_bytes, field_bytes, FieldsFor}
 use Rattle.draft.specs.declared.word.DraftField.{DraftField}
 use Rattle.draft.proofs.Fields.{stored-fields, owned-fields, bare-fields, stored-inside, owned_inside, bare-inside, stored_bytes, owned-bytes, bare-bytes, column-fields, column-inside, column-bytes}
-use Rattle.tables.specs.Making.{input_numbers, bounded, well_named}
-use Rattle.tables.specs.Placing.{lent_owner, lent_given}
+use Rattle.stored.specs.Making.{input_numbers, bounded, well_named}
+use Rattle.stored.specs.Placing.{lent_owner, lent_given}
 use Rattle.tables.specs.Drafting.{DraftOf, ShownDraft}
-use Rattle.tables.specs.declared.node.NewNode.{NewNode}
-use Rattle.tables.specs.declared.node.NewNode.TheVariants.{Table, Projection, Filter, Sort, Limit, Aggregate, Join, SubqueryAlias, Union}
+use Rattle.stored.specs.declared.node.NewNode.{NewNode}
+use Rattle.stored.specs.declared.node.NewNode.TheVariants.{Table, Projection, Filter, Sort, Limit, Aggregate, Join, SubqueryAlias, Union}
 use Rattle.tables.specs.declared.tables.Tables.{Tables}
 
 pub for-new : (t : Tables) (n m : NewNode) (ds : List DraftField) → n ≡ m → ShownDraft t m ds → ShownDraft t n ds

@@ -13,10 +13,11 @@ use Rattle.terms.specs.Views.{numbers_of}
 use Rattle.entries.specs.declared.node.ExprId.{ExprId}
 use Rattle.entries.specs.declared.node.PlanId.{PlanId}
 use Rattle.tables.specs.Holding.{view_in, plan_count}
-use Rattle.tables.specs.Making.{new_key, key_numbers, input_numbers, present, bounded}
-use Rattle.tables.specs.declared.node.NewNode.{NewNode}
-use Rattle.tables.specs.declared.node.NewNode.TheVariants.{Table, Projection, Filter, Sort, Aggregate, Join}
-use Rattle.tables.specs.declared.node.SortKey.{SortKey}
+use Rattle.stored.specs.Making.{new_key, key_numbers, input_numbers, bounded}
+use Rattle.tables.specs.Making.{present}
+use Rattle.stored.specs.declared.node.NewNode.{NewNode}
+use Rattle.stored.specs.declared.node.NewNode.TheVariants.{Table, Projection, Filter, Sort, Aggregate, Join}
+use Rattle.stored.specs.declared.node.SortKey.{SortKey}
 use Rattle.tables.specs.declared.tables.Tables.{Tables}
 
 -- every node and expression that it names stands in the book

@@ -12,9 +12,10 @@ use Rattle.terms.proofs.Bounds.{small}
 use Rattle.lexicon.proofs.Frames.{every-at, every_append}
 use Rattle.asking.specs.Asked.{functions_for, new_fields, new_tree}
 use Rattle.tables.specs.Holding.{view_in, trees_in}
-use Rattle.tables.specs.Making.{input_numbers, present, tree_for}
-use Rattle.tables.specs.declared.node.NewNode.{NewNode}
-use Rattle.tables.specs.declared.node.NewNode.TheVariants.{Table, Projection, Filter, Sort, Limit, Aggregate, Join, SubqueryAlias, Union}
+use Rattle.stored.specs.Making.{input_numbers}
+use Rattle.tables.specs.Making.{present, tree_for}
+use Rattle.stored.specs.declared.node.NewNode.{NewNode}
+use Rattle.stored.specs.declared.node.NewNode.TheVariants.{Table, Projection, Filter, Sort, Limit, Aggregate, Join, SubqueryAlias, Union}
 use Rattle.tables.specs.declared.tables.Tables.{Tables}
 use Rattle.asking.specs.declared.asked.Asked.{Asked}
 use Rattle.asking.proofs.NodeFacts.{projection-in, filter-in, sort-in, aggregate-in, join-in, key-expressions, union-expressions}

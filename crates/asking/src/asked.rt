@@ -1,8 +1,9 @@
 //! A node that is to be made, and what is asked of it first.
 ghost use Rattle.std.specs.Prelude.{◌≡◌, true};
-ghost use Rattle.tables.specs.Making.{bounded, present, well_named};
+ghost use Rattle.stored.specs.Making.{bounded, well_named};
+ghost use Rattle.tables.specs.Making.{present};
 
-use tables::node::NewNode;
+use stored::node::NewNode;
 use tables::tables::Tables;
 
 /// A node that is to be made in these tables. What it names is there, its lists are not too long, and its names are

@@ -2,7 +2,8 @@
 ghost use Rattle.std.specs.Prelude.{◌≡◌, ◌+◌, ◌<◌, true, ◌&&◌, ◌++◌, map, length, nat_le};
 ghost use Rattle.tables.specs.Holding.{fields_at, model_of, plan_count, view_in};
 ghost use Rattle.asking.specs.Asked.{functions_for, new_fields, new_tree};
-ghost use Rattle.tables.specs.Making.{bytes_for, entries_for, key_numbers, outlay_for};
+ghost use Rattle.stored.specs.Making.{key_numbers};
+ghost use Rattle.tables.specs.Making.{outlay_for};
 ghost use Rattle.plan.specs.Calls.{all_below};
 ghost use Rattle.plan.specs.Fields.{every, resolved};
 ghost use Rattle.plan.specs.Model.{expr_in, exprs_in, fits};
@@ -15,8 +16,8 @@ use crate::asked::Asked;
 use draft::reading::has_short_names;
 use entries::node::{ExprId, PlanId, StoredField};
 use naming::resolving::resolved;
+use stored::node::{NewNode, SortKey};
 use table::table::Table;
-use tables::node::{NewNode, SortKey};
 use tables::tables::Tables;
 
 // Free functions: Tables is a type of another crate, so that they cannot be its methods. Clauses: `Asked` holds for the whole
@@ -94,31 +95,6 @@ fn both_short(tables: &Tables, first: &[ExprId], second: &[ExprId]) -> bool
     has_short_names(tables.terms(), first) && has_short_names(tables.terms(), second)
 }
 
-/// How many list entries a node takes.
-fn list_len(node: NewNode<'_>) -> usize
-    ensures { result ≡ entries_for node.entry }
-{
-    match node {
-        NewNode::Projection { list, .. } => list.len(),
-        NewNode::Sort { keys, .. } => keys.len(),
-        NewNode::Aggregate { groups, totals, .. } => groups.len() + totals.len(),
-        NewNode::Join { on, .. } => on.len(),
-        NewNode::Union { inputs } => inputs.len(),
-        _ => 0,
-    }
-}
-
-/// How many bytes of its own a node takes.
-fn own_len(node: NewNode<'_>) -> usize
-    ensures { result ≡ bytes_for node.entry }
-{
-    match node {
-        NewNode::Table { qualifier, names } => qualifier.len() + names.len(),
-        NewNode::SubqueryAlias { name, .. } => name.len(),
-        _ => 0,
-    }
-}
-
 impl Asked<'_, '_> {
     /// Question 6: whether every reference of a node resolves among the fields of its inputs.
     pub(crate) fn is_resolved(self) -> bool
@@ -174,7 +150,7 @@ impl Asked<'_, '_> {
         ensures { result ≡ nat_le (length (view_in self.entry.tables.now).bytes + (outlay_for self.entry.tables.now self.entry.node).bytes) 16384 }
     {
         let room = self.tables.terms().text_room();
-        let own = own_len(self.node);
+        let own = self.node.own_len();
         own <= room && self.rendered_bytes() <= room - own
     }
 
@@ -183,7 +159,7 @@ impl Asked<'_, '_> {
         ensures { result ≡ fits (model_of self.entry.tables.now).used (outlay_for self.entry.tables.now self.entry.node) }
     {
         self.tables.len() < 128
-            && list_len(self.node) <= self.tables.terms().list_room()
+            && self.node.list_len() <= self.tables.terms().list_room()
             && self.width() <= self.tables.field_room()
             && self.has_text_room()
     }

@@ -3,7 +3,7 @@ ghost use Rattle.std.specs.Prelude.{◌≡◌, ◌<◌, [], sum_by};
 ghost use Rattle.tables.specs.Drafting.{DraftOf};
 ghost use Rattle.tables.specs.Holding.{fields_at, plan_count, view_in};
 ghost use Rattle.asking.specs.Asked.{functions_for, new_fields, new_tree};
-ghost use Rattle.tables.specs.Placing.{lent_given, lent_owner};
+ghost use Rattle.stored.specs.Placing.{lent_given, lent_owner};
 ghost use Rattle.plan.specs.Calls.{rendered_bytes};
 ghost use Rattle.plan.specs.Plans.{fields_of, shown};
 ghost use Rattle.plan.specs.Questions.{shown_expressions};
@@ -14,8 +14,8 @@ use draft::word::DraftField;
 use entries::node::{PlanId, Span};
 use names::parts::split_names;
 use plan::code::JoinKind;
+use stored::node::NewNode;
 use table::table::Table;
-use tables::node::NewNode;
 use tables::tables::Tables;
 
 /// The fields that a join shows.

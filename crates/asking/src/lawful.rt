@@ -2,7 +2,6 @@
 ghost use Rattle.std.specs.Prelude.{◌≡◌, ◌<◌, ◌++◌};
 ghost use Rattle.tables.specs.Holding.{fields_at, plan_count};
 ghost use Rattle.asking.specs.Asked.{functions_for, new_fields, new_tree};
-ghost use Rattle.tables.specs.Placing.{lent_given, lent_owner};
 ghost use Rattle.plan.specs.Fields.{lawful};
 ghost use Rattle.plan.specs.Plans.{fields_of};
 ghost use Rattle.plan.specs.Questions.{joint_fields};
@@ -12,8 +11,8 @@ use draft::building::push_stored;
 use draft::lawful::Source;
 use draft::word::{DraftField, Word};
 use entries::node::PlanId;
+use stored::node::NewNode;
 use table::table::Table;
-use tables::node::NewNode;
 use tables::tables::Tables;
 
 /// What fills the places of a draft that are not used.
@@ -22,29 +21,6 @@ pub(crate) fn blank() -> DraftField {
     DraftField {
         qualifier: None,
         name: Word::Owner,
-    }
-}
-
-/// The lent name that the new node's fields take as qualifier; nothing where there is none.
-// An empty name for none, as the definition answers: a Source takes slices.
-fn lent_owner<'a>(node: NewNode<'a>) -> &'a [u8]
-    ensures { result.now ≡ lent_owner node.entry }
-{
-    match node {
-        NewNode::Table { qualifier, .. } => qualifier,
-        NewNode::SubqueryAlias { name, .. } => name,
-        _ => b"",
-    }
-}
-
-/// The lent names of the new node's fields; nothing where there are none.
-// Empty for none, as the definition answers: a Source takes slices.
-fn lent_given<'a>(node: NewNode<'a>) -> &'a [u8]
-    ensures { result.now ≡ lent_given node.entry }
-{
-    match node {
-        NewNode::Table { names, .. } => names,
-        _ => b"",
     }
 }
 
@@ -72,8 +48,8 @@ impl Asked<'_, '_> {
         self.draft_shown(&mut draft);
         let source = Source {
             terms: self.tables.terms(),
-            owner: lent_owner(self.node),
-            given: lent_given(self.node),
+            owner: self.node.lent_owner(),
+            given: self.node.lent_given(),
         };
         source.is_lawful(draft.as_slice())
     }

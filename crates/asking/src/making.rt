@@ -2,14 +2,15 @@
 ghost use Rattle.std.specs.Prelude.{◌≡◌, true};
 ghost use Rattle.tables.specs.Begun.{TablesBegin};
 ghost use Rattle.tables.specs.Holding.{model_of};
-ghost use Rattle.tables.specs.Making.{NodeMade, bounded, present, well_named};
+ghost use Rattle.stored.specs.Making.{bounded, well_named};
+ghost use Rattle.tables.specs.Making.{NodeMade, present};
 
 use crate::asked::Asked;
 use crate::lawful::blank;
 use entries::node::PlanId;
 use plan::fault::{Fault, Question, ask};
+use stored::node::NewNode;
 use table::table::Table;
-use tables::node::NewNode;
 use tables::tables::Tables;
 
 /// Asks the questions on references, fields, limits and space, and stores the node.

@@ -2,7 +2,7 @@
 ghost use Rattle.std.specs.Prelude.{◌≡◌, ◌<◌, ◌≤◌, true, length, sum_by};
 ghost use Rattle.tables.specs.Holding.{fields_at, plan_count, trees_in, view_in};
 ghost use Rattle.asking.specs.Asked.{functions_for, new_fields, new_tree};
-ghost use Rattle.tables.specs.Making.{input_numbers};
+ghost use Rattle.stored.specs.Making.{input_numbers};
 ghost use Rattle.plan.specs.Calls.{all_below, rendered_bytes, union_of};
 ghost use Rattle.plan.specs.Model.{plans_in};
 ghost use Rattle.plan.specs.Plans.{fields_of, further_inputs, plan_size_of, plan_sizes_of, shown};
@@ -13,7 +13,7 @@ use draft::reading::rendered_bytes;
 use entries::node::PlanId;
 use names::parts::count_names;
 use plan::code::JoinKind;
-use tables::node::NewNode;
+use stored::node::NewNode;
 use tables::tables::Tables;
 
 /// How many fields a node has.

@@ -2,7 +2,7 @@
 use book::declaration::Book;
 use entries::node::{ExprId, PlanId};
 use std::test::Fail;
-use tables::node::Key;
+use stored::node::Key;
 use trials::{NONE, first, has_counts, opened, refused_with, short_names, totals, wholes};
 
 #[test]

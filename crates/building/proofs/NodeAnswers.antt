@@ -10,9 +10,10 @@ use Rattle.plan.specs.declared.fault.Question.TheVariants.{Space as SpaceQuestio
 use Rattle.entries.specs.declared.node.PlanId.{PlanId}
 use Rattle.asking.proofs.Questions.{AllYes, go_on}
 use Rattle.tables.specs.Holding.{view_in, model_of, plan_count}
-use Rattle.tables.specs.Making.{tree_for, outlay_for, inputs_for, node_questions, NodeMade}
+use Rattle.stored.specs.Making.{inputs_for}
+use Rattle.tables.specs.Making.{tree_for, outlay_for, node_questions, NodeMade}
 use Rattle.tables.specs.Answering.{answered_plan}
-use Rattle.tables.specs.declared.node.NewNode.{NewNode}
+use Rattle.stored.specs.declared.node.NewNode.{NewNode}
 use Rattle.tables.specs.declared.tables.Tables.{Tables}
 
 -- the call c makes the node n, when its own questions, which are these, are answered yes

@@ -16,10 +16,10 @@ use Rattle.plan.specs.declared.fault.Question.TheVariants.{Present, Bounded, Pla
 use Rattle.entries.specs.declared.node.PlanId.{PlanId}
 use Rattle.tables.specs.Holding.{view_in, trees_in, plan_count}
 use Rattle.building.specs.Keys.{key_pair, key_pairs, sort_key}
-use Rattle.tables.specs.Making.{new_key, key_numbers}
-use Rattle.tables.specs.declared.node.Key.{Key}
-use Rattle.tables.specs.declared.node.NewNode.TheVariants.{Sort}
-use Rattle.tables.specs.declared.node.SortKey.{SortKey}
+use Rattle.stored.specs.Making.{new_key, key_numbers}
+use Rattle.stored.specs.declared.node.Key.{Key}
+use Rattle.stored.specs.declared.node.NewNode.TheVariants.{Sort}
+use Rattle.stored.specs.declared.node.SortKey.{SortKey}
 use Rattle.tables.specs.declared.tables.Tables.{Tables}
 use Rattle.building.proofs.NodeAnswers.{Makes}
 

@@ -7,7 +7,7 @@ use Rattle.plan.specs.Functions.{Functions}
 use Rattle.plan.specs.Model.{plan_in, plans_in}
 use Rattle.plan.specs.Plans.{Plan, fields_of}
 use Rattle.entries.specs.declared.node.PlanId.{PlanId}
-use Rattle.tables.specs.Making.{input_numbers}
+use Rattle.stored.specs.Making.{input_numbers}
 
 -- the first input is as wide as itself, so that it may be asked too
 pub equal-widths : (fs : Functions) (ts : List Plan) (ps : List PlanId) (d : PlanId)

@@ -4,8 +4,8 @@
 use Rattle.std.specs.Prelude.{ℕ, List, map}
 use Rattle.plan.specs.Calls.{direction_in}
 use Rattle.plan.specs.Codes.{direction_of}
-use Rattle.tables.specs.declared.node.Key.{Key}
-use Rattle.tables.specs.declared.node.SortKey.{SortKey}
+use Rattle.stored.specs.declared.node.Key.{Key}
+use Rattle.stored.specs.declared.node.SortKey.{SortKey}
 
 abbrev pub key_pair : Key → ℕ × ℕ
 key_pair k = (k.by.0, k.direction)

@@ -14,7 +14,7 @@ use entries::node::{ExprId, PlanId};
 use names::good_name;
 use names::parts::{count_names, good_names};
 use plan::fault::{Fault, Question, ask};
-use tables::node::NewNode;
+use stored::node::NewNode;
 use tables::tables::Tables;
 
 // Free functions: Tables is a type of another crate, so that they cannot be its methods, and a wrapper would only hold it.

@@ -3,7 +3,7 @@ ghost use Rattle.std.specs.Prelude.{◌≡◌, ◌+◌, ◌<◌, ◌≤◌, true
 ghost use Rattle.tables.specs.Answering.{answered_plan};
 ghost use Rattle.tables.specs.Holding.{fields_at, model_of, plan_count, trees_in, view_in};
 ghost use Rattle.building.specs.Keys.{key_pairs, sort_key};
-ghost use Rattle.tables.specs.Making.{input_numbers};
+ghost use Rattle.stored.specs.Making.{input_numbers};
 ghost use Rattle.plan.specs.Calls.Call.{make_aggregate, make_join, make_sort, make_union};
 ghost use Rattle.plan.specs.Calls.{Answers, all_below, below, between, equal_widths};
 ghost use Rattle.plan.specs.Codes.{direction_of};
@@ -17,8 +17,8 @@ use asking::making::make;
 use entries::node::{ExprId, PlanId};
 use plan::code::{Direction, JoinKind, UnknownCode};
 use plan::fault::{Fault, Question, ask};
+use stored::node::{Key, NewNode, SortKey};
 use table::table::Table;
-use tables::node::{Key, NewNode, SortKey};
 use tables::tables::Tables;
 
 // Free functions, as in `nodes`. That all of a slice of numbers are there is a clause, as for one number.

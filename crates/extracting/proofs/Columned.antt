@@ -9,7 +9,7 @@ use Rattle.plan.specs.Terms.Expr.{alias, call, literal, reference}
 use Rattle.plan.specs.Terms.Exprs.{more, none}
 use Rattle.rewriting.specs.Routing.{Extractor, Side, add_extracted, entered, find_owning_input, find_sole_input, has_all_column_refs, have_all_column_refs, need, needs, noted, one, owner_of, routing_extract, routing_extracts, same_side, schema_columns, taken_if, two, under_alias, under_call}
 use Rattle.lexicon.proofs.Frames.{every_append}
-use Rattle.tables.proofs.PlanFacts.{field-refl, field-same}
+use Rattle.stored.proofs.PlanFacts.{field-refl, field-same}
 use Rattle.extracting.specs.Columns.{Columned, is_among, none_twice, same_column, sided}
 
 -- a column is equal only to itself

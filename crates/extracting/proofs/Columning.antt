@@ -10,8 +10,8 @@ use Rattle.rewriting.specs.Routing
 use Rattle.rewriting.specs.Routing.{Side, one, schema_columns, two}
 use Rattle.tables.proofs.Held.{counted, reads_as}
 use Rattle.tables.specs.Holding.{fields_at, nodes_of, plan_count, view_in}
-use Rattle.tables.specs.declared.node.PlanNode.TheVariants.{Union}
-use Rattle.tables.specs.declared.node.PlanRecord.{PlanRecord}
+use Rattle.stored.specs.declared.node.PlanNode.TheVariants.{Union}
+use Rattle.stored.specs.declared.node.PlanRecord.{PlanRecord}
 use Rattle.tables.specs.declared.tables.Tables.{Tables}
 use Rattle.entries.specs.Spans.{stored_field}
 use Rattle.entries.specs.declared.node.ExprId.{ExprId}

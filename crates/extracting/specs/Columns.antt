@@ -10,7 +10,7 @@ use Rattle.plan.specs.Model.{Node, plan_in}
 use Rattle.plan.specs.Plans.{fields_of}
 use Rattle.plan.specs.Terms.{Field, same_field}
 use Rattle.rewriting.specs.Routing.{Side, one, same_side, schema_columns, two}
-use Rattle.tables.specs.Stored.{node_trees}
+use Rattle.stored.specs.Stored.{node_trees}
 use Rattle.extracting.specs.declared.inputs.Inputs.{Inputs}
 use Rattle.extracting.specs.declared.inputs.Inputs.TheVariants.{One, Two}
 

@@ -7,7 +7,7 @@ use Rattle.plan.specs.Model.{Node, plan_in}
 use Rattle.plan.specs.Plans.{fields_of}
 use Rattle.plan.specs.Terms.{Expr}
 use Rattle.rewriting.specs.Routing.{Side, find_owning_input, find_sole_input, schema_columns}
-use Rattle.tables.specs.Stored.{node_trees}
+use Rattle.stored.specs.Stored.{node_trees}
 use Rattle.extracting.specs.declared.inputs.Inputs.{Inputs}
 use Rattle.extracting.specs.declared.inputs.Inputs.TheVariants.{One, Two}
 

@@ -16,10 +16,10 @@ use Rattle.plan.specs.Tracing.{holds_alias, nodes_in, nodes_in_all, first, Trace
 use Rattle.terms.specs.Views.{View}
 use Rattle.entries.specs.declared.node.PlanId.{PlanId}
 use Rattle.tables.specs.Holding.{view_in, trees_in, fields_at, model_of, plan_count}
-use Rattle.tables.specs.Stored.{build_plan_node, node_inputs, run_numbers}
+use Rattle.stored.specs.Stored.{build_plan_node, node_inputs, run_numbers}
 use Rattle.looking.specs.Tracing.{found_plan, WalkedTo}
-use Rattle.tables.specs.declared.node.PlanNode.{PlanNode}
-use Rattle.tables.specs.declared.node.PlanNode.TheVariants.{Table, Projection, Filter, Sort, Limit, Aggregate, Join, SubqueryAlias, Union}
+use Rattle.stored.specs.declared.node.PlanNode.{PlanNode}
+use Rattle.stored.specs.declared.node.PlanNode.TheVariants.{Table, Projection, Filter, Sort, Limit, Aggregate, Join, SubqueryAlias, Union}
 use Rattle.tables.specs.declared.tables.Tables.{Tables}
 use Rattle.tables.proofs.Inputs.{NodeReads, node_at_lem, tree-at}
 

@@ -18,7 +18,7 @@ ghost use Rattle.terms.specs.Views.{tree_for};
 use entries::node::{Entry, ExprId, ExprNode, PlanId, Span, StoredField};
 use lexicon::declaration::Declaration;
 use plan::fault::{Fault, Question, ask};
-use tables::node::{PlanRecord, Run};
+use stored::node::{PlanRecord, Run};
 use tables::tables::Tables;
 
 // Free functions, here and in `tracing`: Tables is a type of another crate, so that they cannot be its methods.

@@ -5,14 +5,14 @@ ghost use Rattle.plan.specs.Model.{expr_in, tree_at};
 ghost use Rattle.plan.specs.Tracing.{Traced, aliased, holds_alias, trace_asked};
 ghost use Rattle.tables.specs.Holding.{model_of, plan_count, view_in};
 ghost use Rattle.looking.specs.Looking.{Looked};
-ghost use Rattle.tables.specs.Stored.{list_in, run_exprs};
+ghost use Rattle.stored.specs.Stored.{list_in, run_exprs};
 ghost use Rattle.looking.specs.Tracing.{WalkedTo, found_plan};
 
 use entries::listed::Listed;
 use entries::node::{ExprId, ExprNode, PlanId};
 use names::good_name;
 use plan::fault::{Fault, Question, ask};
-use tables::node::{PlanNode, Run};
+use stored::node::{PlanNode, Run};
 use tables::tables::Tables;
 
 /// Whether an expression is an alias of this name.

@@ -30,10 +30,10 @@ use Rattle.names.specs.Spans.{word}
 use Rattle.numbering.proofs.Places.{columns-named, empty-name, of-list, of-nodes, plan-step, plan_own}
 use Rattle.plan.specs.declared.code.JoinKind.{JoinKind}
 use Rattle.std.proofs.lemmas.List.Folds.{flat_map-map}
-use Rattle.tables.specs.Stored.{build_plan, build_plan_node, fields_in, node_trees, plan_nodes, plan_trees, run_exprs, run_numbers, small_number, small_numbers}
-use Rattle.tables.specs.declared.node.PlanNode.{PlanNode}
-use Rattle.tables.specs.declared.node.PlanNode.TheVariants.{Aggregate, Filter, Join, Limit, Projection, Sort, SubqueryAlias, Table, Union}
-use Rattle.tables.specs.declared.node.PlanRecord.{PlanRecord}
+use Rattle.stored.specs.Stored.{build_plan, build_plan_node, fields_in, node_trees, plan_nodes, plan_trees, run_exprs, run_numbers, small_number, small_numbers}
+use Rattle.stored.specs.declared.node.PlanNode.{PlanNode}
+use Rattle.stored.specs.declared.node.PlanNode.TheVariants.{Aggregate, Filter, Join, Limit, Projection, Sort, SubqueryAlias, Table, Union}
+use Rattle.stored.specs.declared.node.PlanRecord.{PlanRecord}
 use Rattle.terms.specs.Views.{View}
 use Rattle.entries.specs.declared.node.Run.{Run}
 use Rattle.entries.specs.declared.node.StoredField.{StoredField}

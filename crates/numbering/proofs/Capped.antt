@@ -17,11 +17,11 @@ use Rattle.plan.specs.Plans.{Plan, fields_of}
 use Rattle.plan.specs.Terms.{Field}
 use Rattle.rewriting.specs.Generated.{book_names, field_names, highest, literal_names, list_names, next_number, node_names, qualifier_names}
 use Rattle.tables.specs.Holding.{model_of, nodes_of, view_in}
-use Rattle.tables.specs.Stored.{build_plan_node, run_numbers}
-use Rattle.tables.specs.declared.node.PlanNode.{PlanNode}
-use Rattle.tables.specs.declared.node.PlanNode.TheVariants.{Aggregate, Filter, Join, Limit, Projection, Sort, SubqueryAlias, Table, Union}
+use Rattle.stored.specs.Stored.{build_plan_node, run_numbers}
+use Rattle.stored.specs.declared.node.PlanNode.{PlanNode}
+use Rattle.stored.specs.declared.node.PlanNode.TheVariants.{Aggregate, Filter, Join, Limit, Projection, Sort, SubqueryAlias, Table, Union}
 use Rattle.tables.specs.declared.tables.Tables.{Tables}
-use Rattle.tables.proofs.PlanFacts.{get_or-mapped}
+use Rattle.stored.proofs.PlanFacts.{get_or-mapped}
 use Rattle.lexicon.specs.Lexicon.{text_of}
 use Rattle.entries.specs.Spans.{literal_at, qualifier_at, stored_field}
 use Rattle.terms.specs.Views.{View}

@@ -14,10 +14,10 @@ use Rattle.plan.specs.Terms.{Expr, Field, arguments}
 use Rattle.plan.specs.Terms.Expr.{alias, call, literal, reference}
 use Rattle.rewriting.specs.Generated.{expr_names, exprs_names, field_names, highest, list_names, literal_names, node_names, plan_names, plans_names}
 use Rattle.names.specs.Spans.{word}
-use Rattle.tables.specs.Stored.{build_plan, build_plan_node, fields_in, key_at, node_trees, plan_nodes, run_exprs, run_keys, run_numbers}
-use Rattle.tables.specs.declared.node.PlanNode.{PlanNode}
-use Rattle.tables.specs.declared.node.PlanNode.TheVariants.{Aggregate, Filter, Join, Limit, Projection, Sort, SubqueryAlias, Table, Union}
-use Rattle.tables.specs.declared.node.PlanRecord.{PlanRecord}
+use Rattle.stored.specs.Stored.{build_plan, build_plan_node, fields_in, key_at, node_trees, plan_nodes, run_exprs, run_keys, run_numbers}
+use Rattle.stored.specs.declared.node.PlanNode.{PlanNode}
+use Rattle.stored.specs.declared.node.PlanNode.TheVariants.{Aggregate, Filter, Join, Limit, Projection, Sort, SubqueryAlias, Table, Union}
+use Rattle.stored.specs.declared.node.PlanRecord.{PlanRecord}
 use Rattle.terms.specs.Build.{build_node, build, numbers_in, trees}
 use Rattle.entries.specs.Spans.{stored_field}
 use Rattle.terms.specs.Views.{View}

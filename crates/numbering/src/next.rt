@@ -11,7 +11,7 @@ ghost use Rattle.terms.specs.Views.{count, tree_of, view_of};
 
 use entries::node::{ExprId, ExprNode, Literal, PlanId, StoredField};
 use names::number_of;
-use tables::node::PlanNode;
+use stored::node::PlanNode;
 use tables::tables::Tables;
 use terms::terms::Terms;
 

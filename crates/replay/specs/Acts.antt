@@ -11,7 +11,7 @@ use Rattle.plan.specs.Terms.Literal.{null, truth, whole, real, text}
 use Rattle.rewriting.specs.Book.{Request, Step}
 use Rattle.rewriting.specs.Book.Request.{build, swap}
 use Rattle.building.specs.Keys.{key_pairs}
-use Rattle.tables.specs.Making.{input_numbers}
+use Rattle.stored.specs.Making.{input_numbers}
 use Rattle.expression.specs.Building.{given_field}
 use Rattle.terms.specs.Views.{numbers_of}
 use Rattle.replay.specs.declared.act.Act.{Act}

@@ -1,7 +1,7 @@
 //! A call as a value, and what it is answered.
 use entries::node::{ExprId, PlanId};
 use plan::fault::Fault;
-use tables::node::Key;
+use stored::node::Key;
 
 /// A call of an open book, with what the caller gives.
 // Not NewNode: a call as a value also makes expressions and swaps, and gives its codes as numbers.

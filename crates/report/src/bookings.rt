@@ -3,7 +3,7 @@ use crate::EQUAL;
 use crate::telling::made;
 use book::opened::OpenBook;
 use entries::node::PlanId;
-use tables::node::Key;
+use stored::node::Key;
 
 /// The kind of a Left join.
 const LEFT: u8 = 1;

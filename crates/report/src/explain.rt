@@ -4,7 +4,7 @@ use entries::node::{Entry, ExprId, ExprNode, Literal, PlanId, Span, StoredField}
 use plan::code::{Direction, JoinKind};
 use std::io;
 use std::str::from_utf8;
-use tables::node::{PlanNode, PlanRecord, Run};
+use stored::node::{PlanNode, PlanRecord, Run};
 
 /// Bytes as text.
 pub fn show_bytes(rt: &impl Print, bytes: &[u8]) -> io::Result<()> {

@@ -11,9 +11,9 @@ use Rattle.entries.specs.declared.node.ExprId.{ExprId}
 use Rattle.entries.specs.declared.node.PlanId.{PlanId}
 use Rattle.entries.specs.declared.node.Run.{Run}
 use Rattle.tables.specs.Holding.{tree_in, trees_in}
-use Rattle.tables.specs.Stored.{build_plan_node, run_numbers}
-use Rattle.tables.specs.declared.node.PlanNode.{PlanNode}
-use Rattle.tables.specs.declared.node.PlanNode.TheVariants.{Table, Projection, Filter, Sort, Limit, Aggregate, Join, SubqueryAlias, Union}
+use Rattle.stored.specs.Stored.{build_plan_node, run_numbers}
+use Rattle.stored.specs.declared.node.PlanNode.{PlanNode}
+use Rattle.stored.specs.declared.node.PlanNode.TheVariants.{Table, Projection, Filter, Sort, Limit, Aggregate, Join, SubqueryAlias, Union}
 use Rattle.book.specs.Opened.{book_of}
 use Rattle.book.specs.declared.opened.OpenBook.{OpenBook}
 use Rattle.reporting.specs.Reporting.{is_projection, is_report}

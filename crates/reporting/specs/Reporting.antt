@@ -17,7 +17,7 @@ use Rattle.engine.specs.Strictness.{Meaning}
 use Rattle.terms.specs.Build.{numbers_in}
 use Rattle.tables.specs.Holding.{tree_in, view_in}
 use Rattle.looking.specs.Looking.{entry_count}
-use Rattle.tables.specs.Stored.{run_exprs}
+use Rattle.stored.specs.Stored.{run_exprs}
 use Rattle.book.specs.Opened.{book_of}
 use Rattle.book.specs.declared.opened.OpenBook.{OpenBook}
 use Rattle.evaluate.specs.Evaluating.{Means, asked, shown_by}

@@ -10,7 +10,7 @@ ghost use Rattle.plan.specs.Values.{is_true};
 ghost use Rattle.reporting.specs.Reporting.{Gives, Reads, ValueOf, column_asked, column_of, is_report, outcome_asked};
 ghost use Rattle.std.specs.Prelude.{◌≡◌, ℕ, List, IfOk, is_ok, length};
 ghost use Rattle.tables.specs.Holding.{fields_at, tree_in, trees_in, view_in};
-ghost use Rattle.tables.specs.Stored.{build_plan_node};
+ghost use Rattle.stored.specs.Stored.{build_plan_node};
 ghost use Rattle.value.specs.Meanings.{meaning_of};
 
 use anyhow::bail;
@@ -19,7 +19,7 @@ use engine::Engine;
 use entries::node::{ExprId, PlanId};
 use evaluate::evaluate;
 use plan::fault::Fault;
-use tables::node::{PlanNode, Run};
+use stored::node::{PlanNode, Run};
 use value::Value;
 
 /// The report as the book has it: a filter over a projection.

@@ -21,16 +21,17 @@ use Rattle.terms.specs.Views.{View, numbers_of}
 use Rattle.entries.specs.declared.node.Entry.{Entry}
 use Rattle.entries.specs.declared.node.ExprId.{ExprId}
 use Rattle.entries.specs.declared.node.PlanId.{PlanId}
-use Rattle.tables.specs.Keys.{key_of}
+use Rattle.stored.specs.Keys.{key_of}
 use Rattle.tables.specs.Holding.{view_in, trees_in, tree_in, fields_at, model_of, plan_count}
-use Rattle.tables.specs.Making.{new_key, key_numbers, input_numbers, tree_over, tree_for, inputs_for, entries_for, bytes_for, outlay_for, node_questions, NodeMade}
+use Rattle.stored.specs.Making.{new_key, key_numbers, input_numbers, tree_over, inputs_for, entries_for, bytes_for}
+use Rattle.tables.specs.Making.{tree_for, outlay_for, node_questions, NodeMade}
 use Rattle.swapping.specs.Remaking.{tree_asked, TreeMade}
-use Rattle.tables.specs.Stored.{build_plan_node, node_inputs, key_at, run_in, run_numbers, run_exprs, run_keys, list_in}
+use Rattle.stored.specs.Stored.{build_plan_node, node_inputs, key_at, run_in, run_numbers, run_exprs, run_keys, list_in}
 use Rattle.entries.specs.declared.node.Run.{Run}
-use Rattle.tables.specs.declared.node.PlanNode.{PlanNode}
-use Rattle.tables.specs.declared.node.NewNode.{NewNode}
-use Rattle.tables.specs.declared.node.NewNode.TheVariants.{Table, Projection, Filter, Sort, Limit, Aggregate, Join, SubqueryAlias, Union}
-use Rattle.tables.specs.declared.node.SortKey.{SortKey}
+use Rattle.stored.specs.declared.node.PlanNode.{PlanNode}
+use Rattle.stored.specs.declared.node.NewNode.{NewNode}
+use Rattle.stored.specs.declared.node.NewNode.TheVariants.{Table, Projection, Filter, Sort, Limit, Aggregate, Join, SubqueryAlias, Union}
+use Rattle.stored.specs.declared.node.SortKey.{SortKey}
 use Rattle.tables.specs.declared.tables.Tables.{Tables}
 use Rattle.asking.proofs.NodeFacts.{exprs-length}
 use Rattle.tables.proofs.Inputs.{NodeReads, tree-at}

@@ -7,7 +7,7 @@ ghost use Rattle.plan.specs.Plans.Plan.{aggregate, join, projection, sort, subqu
 ghost use Rattle.plan.specs.Swapping.{swap_tree};
 ghost use Rattle.tables.specs.Holding.{model_of, plan_count, tree_in, trees_in, view_in};
 ghost use Rattle.swapping.specs.Remaking.{TreeMade};
-ghost use Rattle.tables.specs.Stored.{list_in, run_exprs, run_in, run_keys, run_numbers};
+ghost use Rattle.stored.specs.Stored.{list_in, run_exprs, run_in, run_keys, run_numbers};
 ghost use Rattle.names.specs.Spans.{span_in, word};
 
 use crate::copying::{copied, copy_name};
@@ -15,8 +15,8 @@ use asking::making::make;
 use entries::node::{ExprId, PlanId, Span};
 use plan::code::JoinKind;
 use plan::fault::{Fault, Question};
+use stored::node::{NewNode, PlanNode, Run, SortKey};
 use table::table::Table;
-use tables::node::{NewNode, PlanNode, Run, SortKey};
 use tables::tables::Tables;
 
 // One function for each kind that has lists or a name: they copy different lists and promise different trees.

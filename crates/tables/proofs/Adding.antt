@@ -20,18 +20,19 @@ use Rattle.entries.specs.declared.node.StoredField.{StoredField}
 use Rattle.draft.specs.Drafts.{draft_field, draft_in, draft_bytes, StoredAll}
 use Rattle.draft.specs.declared.word.DraftField.{DraftField}
 use Rattle.draft.proofs.Keeping.{drafts-grown}
-use Rattle.tables.specs.Stored.{fields_in, build_plan_node, build_plan, plan_nodes, node_trees, node_inputs, inputs_from, inside_node, accepted_node, inside_plan, small_number, small_numbers}
+use Rattle.stored.specs.Stored.{fields_in, build_plan_node, build_plan, plan_nodes, node_trees, node_inputs, inputs_from, inside_node, accepted_node, inside_plan, small_number, small_numbers}
 use Rattle.tables.specs.Holding.{view_in, nodes_of, trees_in, plan_count, model_from, model_of}
-use Rattle.tables.specs.Making.{tree_for, tree_over, entries_for, bytes_for, outlay_for, well_named, input_numbers, inputs_for, NodeStored}
-use Rattle.tables.specs.Keys.{key_entry}
-use Rattle.tables.specs.Placing.{own_text, own_entries, lent_owner, lent_given, PlacedAs}
-use Rattle.tables.specs.declared.node.NewNode.{NewNode}
-use Rattle.tables.specs.declared.node.NewNode.TheVariants.{Table, Projection, Filter, Sort, Limit, Aggregate, Join, SubqueryAlias, Union}
-use Rattle.tables.specs.declared.node.PlanRecord.{PlanRecord}
-use Rattle.tables.specs.declared.placing.Placed.{Placed}
+use Rattle.stored.specs.Making.{tree_over, entries_for, bytes_for, well_named, input_numbers, inputs_for}
+use Rattle.tables.specs.Making.{tree_for, outlay_for, NodeStored}
+use Rattle.stored.specs.Keys.{key_entry}
+use Rattle.stored.specs.Placing.{own_text, own_entries, lent_owner, lent_given, PlacedAs}
+use Rattle.stored.specs.declared.node.NewNode.{NewNode}
+use Rattle.stored.specs.declared.node.NewNode.TheVariants.{Table, Projection, Filter, Sort, Limit, Aggregate, Join, SubqueryAlias, Union}
+use Rattle.stored.specs.declared.node.PlanRecord.{PlanRecord}
+use Rattle.stored.specs.declared.placing.Placed.{Placed}
 use Rattle.tables.specs.declared.tables.Tables.{Tables}
-use Rattle.tables.proofs.PlanFrames.{node-grow, accepted-grow, inputs-grow, all-inputs-grow, plans-grow}
-use Rattle.tables.proofs.PlanFacts.{PlanFacts, facts-grow, facts-push, nodes-push}
+use Rattle.stored.proofs.PlanFrames.{node-grow, accepted-grow, inputs-grow, all-inputs-grow, plans-grow}
+use Rattle.stored.proofs.PlanFacts.{PlanFacts, facts-grow, facts-push, nodes-push}
 use Rattle.tables.proofs.Held.{facts-in, counted}
 use Rattle.tables.proofs.Answers.{space-same}
 use Rattle.tables.specs.Drafting.{ShownDraft}

@@ -17,13 +17,13 @@ use Rattle.entries.specs.declared.node.StoredField.{StoredField}
 use Rattle.plan.specs.Fields.{every}
 use Rattle.plan.specs.Plans.{plan_size_of}
 use Rattle.entries.specs.Spans.{stored_in}
-use Rattle.tables.specs.Stored.{plan_nodes, plan_trees, inputs_from, sound_plans, fielded, small_numbers}
+use Rattle.stored.specs.Stored.{plan_nodes, plan_trees, inputs_from, sound_plans, fielded, small_numbers}
 use Rattle.tables.specs.Holding.{view_in, nodes_of, model_from, model_of}
 use Rattle.tables.specs.Answering.{answered_expr}
-use Rattle.tables.specs.declared.node.PlanRecord.{PlanRecord}
+use Rattle.stored.specs.declared.node.PlanRecord.{PlanRecord}
 use Rattle.tables.specs.declared.tables.Tables.{Tables}
-use Rattle.tables.proofs.PlanFrames.{plans-grow, all-inputs-grow}
-use Rattle.tables.proofs.PlanFacts.{PlanFacts, facts-grow}
+use Rattle.stored.proofs.PlanFrames.{plans-grow, all-inputs-grow}
+use Rattle.stored.proofs.PlanFacts.{PlanFacts, facts-grow}
 use Rattle.tables.proofs.Held.{facts-in, counted}
 
 -- the tables of plans keep their facts and trees as expressions are added

@@ -4,10 +4,10 @@ use Rattle.std.proofs.lemmas.List.{get_or-map}
 use Rattle.std.proofs.lemmas.Bool.{leb-true}
 use Rattle.tables.specs.Holding.{view_in, trees_in, plan_count}
 use Rattle.tables.specs.Reading.{ReadsAs}
-use Rattle.tables.specs.Stored.{build_plan_node, node_inputs}
-use Rattle.tables.specs.declared.node.PlanRecord.{PlanRecord}
+use Rattle.stored.specs.Stored.{build_plan_node, node_inputs}
+use Rattle.stored.specs.declared.node.PlanRecord.{PlanRecord}
 use Rattle.tables.specs.declared.tables.Tables.{Tables}
-use Rattle.tables.proofs.PlanFacts.{PlanFacts, plan-at, nodes-length}
+use Rattle.stored.proofs.PlanFacts.{PlanFacts, plan-at, nodes-length}
 
 pub facts-in : (t : Tables) → PlanFacts (view_in t) t.fields t.plans
 facts-in t = record { are-stored = t.stored; are-sound = t.sound; are-fielded = t.fielded; have-sizes = t.sizes; are-numbered = t.numbered }

@@ -14,16 +14,16 @@ use Rattle.entries.specs.declared.node.Entry.{Entry}
 use Rattle.entries.specs.declared.node.PlanId.{PlanId}
 use Rattle.lexicon.proofs.Frames.{every-at}
 use Rattle.tables.specs.Holding.{view_in, nodes_of, trees_in, tree_in, fields_at, model_of, plan_count}
-use Rattle.tables.specs.Making.{input_numbers}
+use Rattle.stored.specs.Making.{input_numbers}
 use Rattle.tables.specs.Reading.{ReadsAs}
-use Rattle.tables.specs.Stored.{build_plan_node, node_inputs, inside_node, accepted_node, run_in, run_numbers, list_in}
+use Rattle.stored.specs.Stored.{build_plan_node, node_inputs, inside_node, accepted_node, run_in, run_numbers, list_in}
 use Rattle.entries.specs.declared.node.Run.{Run}
-use Rattle.tables.specs.declared.node.PlanNode.{PlanNode}
-use Rattle.tables.specs.declared.node.PlanNode.TheVariants.{Table, Projection, Filter, Sort, Limit, Aggregate, Join, SubqueryAlias, Union}
-use Rattle.tables.specs.declared.node.PlanRecord.{PlanRecord}
+use Rattle.stored.specs.declared.node.PlanNode.{PlanNode}
+use Rattle.stored.specs.declared.node.PlanNode.TheVariants.{Table, Projection, Filter, Sort, Limit, Aggregate, Join, SubqueryAlias, Union}
+use Rattle.stored.specs.declared.node.PlanRecord.{PlanRecord}
 use Rattle.tables.specs.declared.tables.Tables.{Tables}
 use Rattle.tables.proofs.Held.{counted, reads_as}
-use Rattle.tables.proofs.PlanFacts.{get_or-mapped}
+use Rattle.stored.proofs.PlanFacts.{get_or-mapped}
 
 -- what a record says of its node
 pub record NodeReads (t : Tables) (p : ℕ) (n : PlanNode) : Type 0 where

@@ -1,8 +1,5 @@
-pub mod PlanFrames
-pub mod PlanFacts
 pub mod Held
 pub mod Inputs
-pub mod Placings
 pub mod Answers
 pub mod Reusing
 pub mod Adding

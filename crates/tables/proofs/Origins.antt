@@ -14,9 +14,9 @@ use Rattle.entries.specs.declared.node.PlanId.{PlanId}
 use Rattle.entries.specs.declared.node.StoredField.{StoredField}
 use Rattle.tables.specs.Holding.{model_from}
 use Rattle.tables.specs.Origins.{OriginGiven}
-use Rattle.tables.specs.Stored.{fields_in, run_in, build_plan_node, build_plan, plan_nodes, plan_trees, node_trees, node_inputs, inputs_from, inside_node, accepted_node, inside_plan, fielded_at, small_numbers}
-use Rattle.tables.specs.declared.node.PlanRecord.{PlanRecord}
-use Rattle.tables.proofs.PlanFacts.{PlanFacts, ok_at}
+use Rattle.stored.specs.Stored.{fields_in, run_in, build_plan_node, build_plan, plan_nodes, plan_trees, node_trees, node_inputs, inputs_from, inside_node, accepted_node, inside_plan, fielded_at, small_numbers}
+use Rattle.stored.specs.declared.node.PlanRecord.{PlanRecord}
+use Rattle.stored.proofs.PlanFacts.{PlanFacts, ok_at}
 
 module _ (v : View) (fields : List StoredField) where
   -- over nodes of which one has another origin

@@ -14,7 +14,7 @@ use Rattle.tables.specs.Reusing.{Reused}
 use Rattle.tables.specs.declared.tables.Tables.{Tables}
 use Rattle.tables.proofs.Answers.{StillHeld, facts-kept, fits-roomy, inputs-kept, nodes-kept, space-same}
 use Rattle.tables.proofs.Held.{counted, facts-in}
-use Rattle.tables.proofs.PlanFacts.{PlanFacts}
+use Rattle.stored.proofs.PlanFacts.{PlanFacts}
 
 module _ (t : Tables) (w : View) (e : Expr) where
   facts_reused : (r : Result ExprId Fault) → Reusing.Reused (view_in t) e r w → PlanFacts w t.fields t.plans

@@ -12,8 +12,8 @@ use Rattle.draft.specs.Drafts.{draft_field, draft_in, draft_bytes}
 use Rattle.draft.specs.declared.word.DraftField.{DraftField}
 use Rattle.tables.specs.Holding.{view_in}
 use Rattle.tables.specs.Making.{tree_for}
-use Rattle.tables.specs.Placing.{lent_owner, lent_given}
-use Rattle.tables.specs.declared.node.NewNode.{NewNode}
+use Rattle.stored.specs.Placing.{lent_owner, lent_given}
+use Rattle.stored.specs.declared.node.NewNode.{NewNode}
 use Rattle.tables.specs.declared.tables.Tables.{Tables}
 
 pub record DraftOf (v : View) (o g : List ℕ) (fs : List Field) (n : ℕ) (ds : List DraftField) : Type 0 where

@@ -7,9 +7,9 @@ use Rattle.plan.specs.Terms.{Field}
 use Rattle.plan.specs.Plans.{Plan, fields_of}
 use Rattle.plan.specs.Model.{Model, Node, space, plan_in}
 use Rattle.terms.specs.Views.{View, view_of}
-use Rattle.tables.specs.Stored.{plan_nodes, plan_trees, inputs_from}
+use Rattle.stored.specs.Stored.{plan_nodes, plan_trees, inputs_from}
 use Rattle.entries.specs.declared.node.StoredField.{StoredField}
-use Rattle.tables.specs.declared.node.PlanRecord.{PlanRecord}
+use Rattle.stored.specs.declared.node.PlanRecord.{PlanRecord}
 use Rattle.tables.specs.declared.tables.Tables.{Tables}
 
 abbrev pub view_in : Tables → View

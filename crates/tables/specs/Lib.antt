@@ -1,12 +1,8 @@
-pub mod Stored
 pub mod Holding
 pub mod Reading
 pub mod Making
-pub mod Placing
-pub mod Listing
 pub mod Answering
 pub mod Reusing
 pub mod Drafting
-pub mod Keys
 pub mod Origins
 pub mod Begun

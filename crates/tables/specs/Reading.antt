@@ -3,9 +3,9 @@
 use Rattle.std.specs.Prelude.{◌≡◌, ℕ, ◌≤◌, true, slice_index_or}
 use Rattle.plan.specs.Plans.{plan_size_of}
 use Rattle.plan.specs.Model.{no_node, inputs_at}
-use Rattle.tables.specs.Stored.{fields_in, run_in, build_plan_node, node_inputs, inside_node, accepted_node}
+use Rattle.stored.specs.Stored.{fields_in, run_in, build_plan_node, node_inputs, inside_node, accepted_node}
 use Rattle.tables.specs.Holding.{view_in, nodes_of, trees_in, tree_in, fields_at, model_of}
-use Rattle.tables.specs.declared.node.PlanRecord.{PlanRecord}
+use Rattle.stored.specs.declared.node.PlanRecord.{PlanRecord}
 use Rattle.tables.specs.declared.tables.Tables.{Tables}
 
 pub record ReadsAs (t : Tables) (p : ℕ) (r : PlanRecord) : Type 0 where

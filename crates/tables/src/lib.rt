@@ -1,8 +1,5 @@
 //! The five tables of a book, the calls that make an expression in them, and the call that stores a node.
 #![tactic(auto)]
 
-mod keys;
 pub mod marks;
-pub mod node;
-pub mod placing;
 pub mod tables;

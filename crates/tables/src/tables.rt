@@ -1,13 +1,13 @@
 //! The five tables of a book; the methods stand below, so that they can cite `specs/Holding.antt`.
-ghost use Rattle.tables.specs.Stored.{fielded, plan_trees, small_numbers, sound_plans};
+ghost use Rattle.stored.specs.Stored.{fielded, plan_trees, small_numbers, sound_plans};
 ghost use Rattle.plan.specs.Fields.{every};
 ghost use Rattle.plan.specs.Plans.{plan_size_of};
 ghost use Rattle.entries.specs.Spans.{stored_in};
 ghost use Rattle.terms.specs.Views.{view_of};
 ghost use Rattle.std.specs.Prelude.{◌≡◌, ◌≤◌, true, map, length};
 
-use crate::node::PlanRecord;
 use entries::node::StoredField;
+use stored::node::PlanRecord;
 use table::table::Table;
 use terms::terms::Terms;
 

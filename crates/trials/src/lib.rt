@@ -11,7 +11,7 @@ use book::declaration::Book;
 use book::opened::OpenBook;
 use entries::node::ExprId;
 use plan::fault::Fault;
-use tables::node::Key;
+use stored::node::Key;
 
 /// Function 0 has no argument, 1 to 4 have as many as their number; none is a total.
 pub const NONE: u8 = 0;

@@ -5,14 +5,14 @@ ghost use Rattle.rewriting.specs.Book.Request.{build};
 ghost use Rattle.rewriting.specs.Book.{Answers};
 ghost use Rattle.tables.specs.Answering.{answered_plan};
 ghost use Rattle.building.specs.Keys.{key_pairs};
-ghost use Rattle.tables.specs.Making.{input_numbers};
+ghost use Rattle.stored.specs.Making.{input_numbers};
 ghost use Rattle.terms.specs.Views.{numbers_of};
 
 use super::OpenBook;
 use building::{nodes, wider};
 use entries::node::{ExprId, PlanId};
 use plan::fault::Fault;
-use tables::node::Key;
+use stored::node::Key;
 
 impl OpenBook {
     /// A Table: a qualifier, and the names of its fields parted by commas.

@@ -24,7 +24,7 @@ use lexicon::declaration::Declaration;
 use looking::looking::{entry, expr, field, function, listed, node_fields, plan, word};
 use looking::tracing::trace;
 use plan::fault::Fault;
-use tables::node::{PlanRecord, Run};
+use stored::node::{PlanRecord, Run};
 use terms::terms::Terms;
 
 impl OpenBook {

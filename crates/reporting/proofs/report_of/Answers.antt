@@ -1,6 +1,6 @@
 use Rattle.std.proofs.Common.{sym, ap, ◌∙◌}
 use Rattle.tables.specs.Holding.{fields_at, tree_in, trees_in, view_in}
-use Rattle.tables.specs.Stored.{build_plan_node}
+use Rattle.stored.specs.Stored.{build_plan_node}
 use Rattle.reporting.specs.Reporting.{Reads, is_projection, is_report}
 use Rattle.reporting.proofs.Reading.{absent, absent-below, no-filter, no-projection, refused-read}
 use Rattle.reporting.proofs.report_of.Goals as goal

@@ -3,17 +3,18 @@ ghost use Rattle.std.specs.Prelude.{◌≡◌, true};
 ghost use Rattle.tables.specs.Begun.{TablesBegin};
 ghost use Rattle.tables.specs.Drafting.{ShownDraft};
 ghost use Rattle.tables.specs.Holding.{model_of, view_in};
-ghost use Rattle.tables.specs.Making.{NodeStored, bounded, outlay_for, present, tree_for, well_named};
+ghost use Rattle.stored.specs.Making.{bounded, well_named};
+ghost use Rattle.tables.specs.Making.{NodeStored, outlay_for, present, tree_for};
 ghost use Rattle.plan.specs.Model.{fits};
 ghost use Rattle.plan.specs.Plans.{plan_size_of};
 ghost use Rattle.plan.specs.Questions.{limited};
 
 use super::Tables;
-use crate::node::{NewNode, PlanRecord, Run};
-use crate::placing::place;
 use draft::storing::store;
 use draft::word::DraftField;
 use entries::node::PlanId;
+use stored::node::{NewNode, PlanRecord, Run};
+use stored::placing::place;
 
 impl Tables {
     /// Stores a node that has passed its questions, with the size of its tree and a draft of its fields.

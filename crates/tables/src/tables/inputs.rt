@@ -4,9 +4,9 @@ ghost use Rattle.plan.specs.Model.{inputs_at};
 ghost use Rattle.tables.specs.Holding.{model_of, plan_count};
 
 use super::Tables;
-use crate::node::PlanNode;
 use entries::listed::Listed;
 use entries::node::PlanId;
+use stored::node::PlanNode;
 
 impl Tables {
     /// How many inputs a node has.

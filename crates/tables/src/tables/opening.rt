@@ -5,9 +5,9 @@ ghost use Rattle.lexicon.specs.Lexicon.{functions_of, text_of};
 ghost use Rattle.std.specs.Prelude.{◌≡◌};
 
 use super::Tables;
-use crate::node::{PlanNode, PlanRecord, Run};
 use entries::node::{PlanId, Span, StoredField};
 use lexicon::lexicon::Lexicon;
+use stored::node::{PlanNode, PlanRecord, Run};
 use table::table::Table;
 use terms::terms::Terms;
 

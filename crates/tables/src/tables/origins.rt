@@ -5,8 +5,8 @@ ghost use Rattle.tables.specs.Holding.{model_of, plan_count};
 ghost use Rattle.tables.specs.Origins.{OriginGiven};
 
 use super::Tables;
-use crate::node::PlanRecord;
 use entries::node::PlanId;
+use stored::node::PlanRecord;
 
 /// Sets the origin of a record that is lent.
 // A function of its own, since a rule of the project asks for one that is lent a record and sets a field of it.

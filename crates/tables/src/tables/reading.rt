@@ -9,8 +9,8 @@ ghost use Rattle.plan.specs.Plans.{plan_size_of};
 ghost use Rattle.entries.specs.Spans.{stored_field, stored_in};
 
 use super::Tables;
-use crate::node::PlanRecord;
 use entries::node::{PlanId, StoredField};
+use stored::node::PlanRecord;
 use terms::terms::Terms;
 
 // That a node or an expression is there is a clause of each call: a number says nothing of the tables, which grow.

@@ -1,7 +1,7 @@
 use Rattle.std.proofs.Common.{not, [], ◌∷◌, sym, refl, ap, ◌∙◌}
 use Rattle.plan.specs.Calls.Call.{make_filter}
 use Rattle.plan.specs.declared.fault.Question.TheVariants.{Present, Placed}
-use Rattle.tables.specs.declared.node.NewNode.TheVariants.{Filter}
+use Rattle.stored.specs.declared.node.NewNode.TheVariants.{Filter}
 use Rattle.tables.proofs.Lent.{total-lent}
 use Rattle.building.proofs.NodeAnswers.{plan-answers}
 use Rattle.building.proofs.nodes.filter.Goals as goal

@@ -1,7 +1,7 @@
 use Rattle.std.proofs.Common.{[], ◌∷◌, sym, refl, ◌∙◌}
 use Rattle.plan.specs.Calls.Call.{make_limit}
 use Rattle.plan.specs.declared.fault.Question.TheVariants.{Present}
-use Rattle.tables.specs.declared.node.NewNode.TheVariants.{Limit}
+use Rattle.stored.specs.declared.node.NewNode.TheVariants.{Limit}
 use Rattle.building.proofs.NodeAnswers.{plan-answers}
 use Rattle.building.proofs.nodes.limit.Goals as goal
 

@@ -9,7 +9,7 @@ use Rattle.plan.specs.declared.fault.Question.TheVariants.{Present, Bounded, Pla
 use Rattle.tables.specs.Holding.{view_in}
 use Rattle.tables.proofs.Lent.{totals-lent}
 use Rattle.tables.specs.Making.{tree_for}
-use Rattle.tables.specs.declared.node.NewNode.TheVariants.{Projection}
+use Rattle.stored.specs.declared.node.NewNode.TheVariants.{Projection}
 use Rattle.building.proofs.NodeAnswers.{plan-answers}
 use Rattle.building.proofs.nodes.projection.Goals as goal
 

@@ -7,7 +7,7 @@ use Rattle.plan.specs.declared.fault.Question.TheVariants.{Present, Bounded, Pla
 use Rattle.terms.specs.Views.{numbers_of}
 use Rattle.tables.specs.Holding.{view_in, plan_count}
 use Rattle.tables.specs.Making.{tree_for}
-use Rattle.tables.specs.declared.node.NewNode.TheVariants.{Aggregate}
+use Rattle.stored.specs.declared.node.NewNode.TheVariants.{Aggregate}
 use Rattle.building.proofs.NodeAnswers.{plan-answers}
 use Rattle.building.proofs.wider.aggregate.Goals as goal
 

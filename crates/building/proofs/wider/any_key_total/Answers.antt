@@ -4,7 +4,7 @@ use Rattle.std.proofs.lemmas.Iterator.Search.{any_from_yields_List}
 use Rattle.plan.specs.Functions.{is_total}
 use Rattle.plan.specs.Model.{expr_in}
 use Rattle.tables.specs.Holding.{view_in}
-use Rattle.tables.specs.declared.node.Key.{Key}
+use Rattle.stored.specs.declared.node.Key.{Key}
 use Rattle.terms.proofs.Walks.{any-moved, any-twice, serves_low}
 use Rattle.building.specs.Keys.{key_pair, key_pairs}
 use Rattle.building.proofs.SortFacts.{keys_below}

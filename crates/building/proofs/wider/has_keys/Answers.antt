@@ -3,7 +3,7 @@ use Rattle.std.proofs.lemmas.Iterator.{YieldsList-from_slice}
 use Rattle.std.proofs.lemmas.Iterator.Search.{all_from_yields_List}
 use Rattle.plan.specs.Calls.{below}
 use Rattle.tables.specs.Holding.{view_in}
-use Rattle.tables.specs.declared.node.Key.{Key}
+use Rattle.stored.specs.declared.node.Key.{Key}
 use Rattle.terms.proofs.Walks.{every-twice}
 use Rattle.building.specs.Keys.{key_pair}
 use Rattle.building.proofs.wider.has_keys.Goals as goal

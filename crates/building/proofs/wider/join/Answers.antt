@@ -15,7 +15,7 @@ use Rattle.plan.specs.declared.code.JoinKind.{JoinKind}
 use Rattle.plan.specs.declared.fault.Question.TheVariants.{Present, Bounded, Placed}
 use Rattle.terms.specs.Views.{numbers_of}
 use Rattle.tables.specs.Holding.{view_in, trees_in, plan_count}
-use Rattle.tables.specs.declared.node.NewNode.TheVariants.{Join}
+use Rattle.stored.specs.declared.node.NewNode.TheVariants.{Join}
 use Rattle.tables.proofs.Lent.{totals-lent}
 use Rattle.building.proofs.NodeAnswers.{plan-answers}
 use Rattle.building.proofs.wider.join.Goals as goal

@@ -5,8 +5,8 @@ use Rattle.plan.specs.Calls.Call.{make_sort}
 use Rattle.plan.specs.Calls.{below, all_below, between}
 use Rattle.tables.specs.Holding.{view_in, plan_count}
 use Rattle.building.specs.Keys.{key_pair, key_pairs}
-use Rattle.tables.specs.Making.{key_numbers}
-use Rattle.tables.specs.declared.node.NewNode.TheVariants.{Sort}
+use Rattle.stored.specs.Making.{key_numbers}
+use Rattle.stored.specs.declared.node.NewNode.TheVariants.{Sort}
 use Rattle.building.proofs.NodeAnswers.{plan-answers}
 use Rattle.building.proofs.SortFacts.{sorted-numbers, sort-makes, sort_asked}
 use Rattle.building.proofs.wider.sort.Goals as goal

@@ -6,7 +6,7 @@ use Rattle.plan.specs.Calls.{direction_in}
 use Rattle.plan.specs.Codes.{direction_of}
 use Rattle.plan.specs.Fields.{every}
 use Rattle.building.specs.Keys.{key_pair, key_pairs, sort_key}
-use Rattle.tables.specs.declared.node.Key.{Key}
+use Rattle.stored.specs.declared.node.Key.{Key}
 use Rattle.building.proofs.wider.sort_keys.Goals as goal
 
 abbrev zero : Key

@@ -5,8 +5,9 @@ use Rattle.plan.specs.Calls.Call.{make_union}
 use Rattle.plan.specs.Calls.{between, node_outlay}
 use Rattle.plan.specs.declared.fault.Question.TheVariants.{Present, Bounded}
 use Rattle.tables.specs.Holding.{view_in}
-use Rattle.tables.specs.Making.{input_numbers, tree_for}
-use Rattle.tables.specs.declared.node.NewNode.TheVariants.{Union}
+use Rattle.stored.specs.Making.{input_numbers}
+use Rattle.tables.specs.Making.{tree_for}
+use Rattle.stored.specs.declared.node.NewNode.TheVariants.{Union}
 use Rattle.building.proofs.NodeAnswers.{plan-answers}
 use Rattle.building.proofs.wider.union.Goals as goal
 

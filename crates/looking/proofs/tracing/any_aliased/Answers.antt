@@ -8,7 +8,7 @@ use Rattle.plan.specs.Model.{expr_in}
 use Rattle.plan.specs.Tracing.{aliased}
 use Rattle.entries.specs.Entries.{entry_number}
 use Rattle.tables.specs.Holding.{view_in}
-use Rattle.tables.specs.Stored.{run_in}
+use Rattle.stored.specs.Stored.{run_in}
 use Rattle.terms.proofs.Walks.{any-twice, serves_low}
 use Rattle.tables.proofs.Lent.{entries-lent}
 use Rattle.looking.proofs.tracing.any_aliased.Goals as goal

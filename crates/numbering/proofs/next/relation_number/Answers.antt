@@ -6,7 +6,7 @@ use Rattle.numbering.specs.Own.{capped, relation_names}
 use Rattle.numbering.proofs.Capped.{capped-nameless, capped-one}
 use Rattle.plan.specs.Names.{number_of}
 use Rattle.tables.specs.Holding.{fields_at, trees_in, view_in}
-use Rattle.tables.specs.Stored.{build_plan_node}
+use Rattle.stored.specs.Stored.{build_plan_node}
 use Rattle.numbering.proofs.next.relation_number.Goals as goal
 
 pub returns-in-Table : goal.returns-in-Table

@@ -8,14 +8,14 @@ use Rattle.entries.specs.declared.node.PlanId.{PlanId}
 use Rattle.tables.specs.Holding.{view_in, trees_in, tree_in, fields_at, model_of, plan_count}
 use Rattle.tables.specs.Reading.{ReadsAs}
 use Rattle.swapping.specs.Remaking.{TreeMade}
-use Rattle.tables.specs.Stored.{build_plan_node, node_inputs, run_in, run_numbers}
-use Rattle.tables.specs.declared.node.NewNode.TheVariants.{Filter, Limit}
-use Rattle.tables.specs.declared.node.PlanNode.{PlanNode}
-use Rattle.tables.specs.declared.node.PlanNode.TheVariants.{Union}
-use Rattle.tables.specs.declared.node.PlanRecord.{PlanRecord}
+use Rattle.stored.specs.Stored.{build_plan_node, node_inputs, run_in, run_numbers}
+use Rattle.stored.specs.declared.node.NewNode.TheVariants.{Filter, Limit}
+use Rattle.stored.specs.declared.node.PlanNode.{PlanNode}
+use Rattle.stored.specs.declared.node.PlanNode.TheVariants.{Union}
+use Rattle.stored.specs.declared.node.PlanRecord.{PlanRecord}
 use Rattle.tables.specs.declared.tables.Tables.{Tables}
 use Rattle.tables.proofs.Inputs.{as-node, run_long}
-use Rattle.tables.proofs.PlanFrames.{below_more}
+use Rattle.stored.proofs.PlanFrames.{below_more}
 use Rattle.swapping.proofs.Remade.{made-anew, set-one, set-left, set-right, join-left, join-right, swap-union, swap-made}
 use Rattle.swapping.proofs.remaking.remake.Goals as goal
 

@@ -5,7 +5,7 @@ use Rattle.plan.specs.Plans.Plan.{subquery_alias}
 use Rattle.names.specs.Spans.{word}
 use Rattle.terms.proofs.Bounds.{name-short}
 use Rattle.tables.specs.Holding.{view_in, tree_in}
-use Rattle.tables.specs.declared.node.NewNode.TheVariants.{SubqueryAlias}
+use Rattle.stored.specs.declared.node.NewNode.TheVariants.{SubqueryAlias}
 use Rattle.tables.proofs.Lent.{word-lent}
 use Rattle.swapping.proofs.Remade.{made-anew}
 use Rattle.swapping.proofs.remaking.remake_alias.Goals as goal

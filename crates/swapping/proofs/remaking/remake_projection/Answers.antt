@@ -4,8 +4,8 @@ use Rattle.table.proofs.Parts.{length_part}
 use Rattle.plan.specs.Plans.Plan.{projection}
 use Rattle.entries.specs.Entries.{expr_of}
 use Rattle.tables.specs.Holding.{view_in, tree_in}
-use Rattle.tables.specs.Stored.{run_in}
-use Rattle.tables.specs.declared.node.NewNode.TheVariants.{Projection}
+use Rattle.stored.specs.Stored.{run_in}
+use Rattle.stored.specs.declared.node.NewNode.TheVariants.{Projection}
 use Rattle.tables.proofs.Lent.{entries-lent}
 use Rattle.swapping.proofs.Remade.{exprs-present, exprs-copied, copy-few, made-anew}
 use Rattle.swapping.proofs.remaking.remake_projection.Goals as goal

@@ -2,10 +2,10 @@ use Rattle.std.proofs.Common.{map, length, refl, ap, ◌∙◌, arith}
 use Rattle.std.proofs.lemmas.Bool.{and_parts, and_from, leb-true, lt-ltb}
 use Rattle.table.proofs.Parts.{length_part}
 use Rattle.plan.specs.Plans.Plan.{sort}
-use Rattle.tables.specs.Keys.{key_of}
+use Rattle.stored.specs.Keys.{key_of}
 use Rattle.tables.specs.Holding.{view_in, tree_in}
-use Rattle.tables.specs.Stored.{run_in}
-use Rattle.tables.specs.declared.node.NewNode.TheVariants.{Sort}
+use Rattle.stored.specs.Stored.{run_in}
+use Rattle.stored.specs.declared.node.NewNode.TheVariants.{Sort}
 use Rattle.tables.proofs.Lent.{entries-lent}
 use Rattle.swapping.proofs.Remade.{keys-present, keys-copied, copy-few, made-anew}
 use Rattle.swapping.proofs.remaking.remake_sort.Goals as goal

@@ -9,9 +9,9 @@ use Rattle.terms.specs.Views.{View}
 use Rattle.entries.specs.declared.node.PlanId.{PlanId}
 use Rattle.entries.specs.Entries.{input_of}
 use Rattle.tables.specs.Holding.{view_in, trees_in, plan_count}
-use Rattle.tables.specs.Making.{input_numbers}
-use Rattle.tables.specs.Stored.{run_in, run_numbers}
-use Rattle.tables.specs.declared.node.NewNode.TheVariants.{Union}
+use Rattle.stored.specs.Making.{input_numbers}
+use Rattle.stored.specs.Stored.{run_in, run_numbers}
+use Rattle.stored.specs.declared.node.NewNode.TheVariants.{Union}
 use Rattle.entries.specs.declared.node.Run.{Run}
 use Rattle.tables.proofs.Lent.{entries-lent}
 use Rattle.swapping.proofs.Remade.{copy-long, inputs-copied, below_set, made-anew}

@@ -8,8 +8,9 @@ use Rattle.plan.specs.Calls.{below, all_below, parts, rendered_bytes}
 use Rattle.terms.specs.Views.{numbers_of}
 use Rattle.entries.specs.declared.node.PlanId.{PlanId}
 use Rattle.tables.specs.Holding.{view_in, trees_in, plan_count}
-use Rattle.tables.specs.Making.{present, bounded, well_named}
-use Rattle.tables.specs.declared.node.NewNode.TheVariants.{Table, Projection, Aggregate, SubqueryAlias, Union}
+use Rattle.stored.specs.Making.{bounded, well_named}
+use Rattle.tables.specs.Making.{present}
+use Rattle.stored.specs.declared.node.NewNode.TheVariants.{Table, Projection, Aggregate, SubqueryAlias, Union}
 use Rattle.tables.proofs.Lent.{present-lent, fields-lent}
 use Rattle.asking.proofs.Draftings.{for-new, stored-draft, owned-draft, bare-draft, exprs-draft, lists-draft, exprs-length, table-draft, names-short, first_below, union-fields, union-shown}
 use Rattle.asking.proofs.asked.Asked.draft_shown.Goals as goal

@@ -2,7 +2,8 @@ use Rattle.std.proofs.Common.{◌+◌, ◌≤◌, length, ◌∙◌, ap, arith, 
 use Rattle.std.proofs.lemmas.Bool.{leb-true}
 use Rattle.terms.specs.Views.{view_of}
 use Rattle.tables.specs.Holding.{view_in, model_of, plan_count}
-use Rattle.tables.specs.Making.{entries_for, outlay_for}
+use Rattle.stored.specs.Making.{entries_for}
+use Rattle.tables.specs.Making.{outlay_for}
 use Rattle.asking.proofs.Fitting.{exprs-fit, rest-fits}
 use Rattle.asking.proofs.asked.Asked.has_room.Goals as goal
 use Rattle.asking.proofs.asked.Asked.has_room.Goals.{then-len-lt128, else-len-lt128, then-list_len-list_room, else-list_len-list_room}

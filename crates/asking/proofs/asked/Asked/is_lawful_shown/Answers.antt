@@ -3,7 +3,7 @@ use Rattle.plan.specs.Fields.{every, lawful}
 use Rattle.draft.specs.Drafts.{draft_field, draft_in}
 use Rattle.terms.specs.Views.{view_of}
 use Rattle.tables.specs.Holding.{view_in}
-use Rattle.tables.specs.Placing.{lent_owner, lent_given}
+use Rattle.stored.specs.Placing.{lent_owner, lent_given}
 use Rattle.asking.proofs.Draftings.{lent-short}
 use Rattle.asking.proofs.asked.Asked.is_lawful_shown.Goals as goal
 

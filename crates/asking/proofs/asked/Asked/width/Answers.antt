@@ -7,7 +7,7 @@ use Rattle.plan.specs.Rendering.{field_of}
 use Rattle.terms.specs.Views.{numbers_of}
 use Rattle.tables.specs.Holding.{view_in}
 use Rattle.tables.specs.Making.{tree_for}
-use Rattle.tables.specs.declared.node.NewNode.{NewNode}
+use Rattle.stored.specs.declared.node.NewNode.{NewNode}
 use Rattle.tables.specs.declared.tables.Tables.{Tables}
 use Rattle.asking.proofs.NodeFacts.{table-few, projection-few, aggregate-few, exprs-length}
 use Rattle.asking.proofs.asked.Asked.width.Goals as goal

@@ -3,7 +3,8 @@ use Rattle.std.proofs.lemmas.List.{length-map, length_push}
 use Rattle.entries.specs.Spans.{stored_field}
 use Rattle.terms.specs.Views.{view_of}
 use Rattle.tables.specs.Holding.{view_in, model_of}
-use Rattle.tables.specs.Making.{present_in, outlay_for}
+use Rattle.stored.specs.Making.{present_in}
+use Rattle.tables.specs.Making.{outlay_for}
 use Rattle.tables.proofs.Held.{counted}
 use Rattle.tables.proofs.Adding.{fits-parts, draft-kept, draft-long, bytes_left, added-facts, added}
 use Rattle.tables.proofs.tables.Tables.add.Goals as goal

@@ -4,7 +4,7 @@ use Rattle.table.proofs.Parts.{length_part}
 use Rattle.plan.specs.Fields.{every}
 use Rattle.entries.specs.Spans.{stored_field, stored_in}
 use Rattle.tables.specs.Holding.{view_in}
-use Rattle.tables.proofs.PlanFrames.{every-part}
+use Rattle.stored.proofs.PlanFrames.{every-part}
 use Rattle.tables.proofs.tables.Tables.fields_of.Goals as goal
 
 pub part-requires : goal.part-requires

@@ -3,7 +3,7 @@ use Rattle.std.proofs.lemmas.List.{get_or-map, length-map}
 use Rattle.table.specs.Contents.{part}
 use Rattle.entries.specs.Entries.{entry_number}
 use Rattle.tables.specs.Holding.{view_in}
-use Rattle.tables.specs.declared.node.PlanNode.TheVariants.{Union}
+use Rattle.stored.specs.declared.node.PlanNode.TheVariants.{Union}
 use Rattle.tables.proofs.Inputs.{as-node, input-lower}
 use Rattle.tables.proofs.tables.Tables.input_at.Goals as goal
 

@@ -1,8 +1,8 @@
 use Rattle.std.proofs.Common.{length, sym, ap, ◌∙◌}
 use Rattle.std.proofs.lemmas.Bool.{and_parts}
 use Rattle.tables.specs.Holding.{view_in}
-use Rattle.tables.specs.Stored.{run_in}
-use Rattle.tables.specs.declared.node.PlanNode.TheVariants.{Union}
+use Rattle.stored.specs.Stored.{run_in}
+use Rattle.stored.specs.declared.node.PlanNode.TheVariants.{Union}
 use Rattle.tables.proofs.Inputs.{as-node, run_long}
 use Rattle.tables.proofs.tables.Tables.input_count.Goals as goal
 

@@ -4,8 +4,8 @@
 use Rattle.entries.specs.Entries.{expr_of}
 use Rattle.entries.specs.declared.node.Entry.{Entry}
 use Rattle.entries.specs.declared.node.Entry.TheVariants.{Key}
-use Rattle.tables.specs.Stored.{entry_direction}
-use Rattle.tables.specs.declared.node.SortKey.{SortKey}
+use Rattle.stored.specs.Stored.{entry_direction}
+use Rattle.stored.specs.declared.node.SortKey.{SortKey}
 
 abbrev pub key_entry : SortKey → Entry
 key_entry k = Key k.by k.direction

@@ -1,8 +1,8 @@
 //! How a new node's names and lists are put into the tables.
 ghost use Rattle.std.specs.Prelude.{◌≡◌, ◌+◌, ◌≤◌, true, map, length};
-ghost use Rattle.tables.specs.Placing.{PlacedAs, namelessly};
-ghost use Rattle.tables.specs.Listing.{ListedAs};
-ghost use Rattle.tables.specs.Making.{bounded, bytes_for, entries_for, present_in};
+ghost use Rattle.stored.specs.Placing.{PlacedAs, namelessly};
+ghost use Rattle.stored.specs.Listing.{ListedAs};
+ghost use Rattle.stored.specs.Making.{bounded, bytes_for, entries_for, present_in};
 ghost use Rattle.terms.specs.Begun.{TermsBegin};
 ghost use Rattle.terms.specs.Views.{view_of};
 

@@ -1,4 +1,4 @@
--- How a new node's names and lists are put into the tables; cited by src/placing.rt.
+-- How a new node's names and lists are put into the tables; cited by src/placing.rt and src/own.rt.
 --     own_text n, own_entries n      the bytes and the list entries that it adds
 --     lent_owner n, lent_given n      the name that its fields take as qualifier; the names of its fields
 --     PlacedAs v k n r v'      the record's node over the tables afterwards
@@ -10,13 +10,13 @@ use Rattle.draft.specs.Drafts.{LentIn}
 use Rattle.terms.specs.Views.{View, grown}
 use Rattle.entries.specs.declared.node.Entry.{Entry}
 use Rattle.entries.specs.declared.node.Entry.TheVariants.{Expression, Input}
-use Rattle.tables.specs.Keys.{key_entry}
-use Rattle.tables.specs.Stored.{build_plan_node, node_inputs, inside_node, accepted_node}
-use Rattle.tables.specs.Making.{tree_over, inputs_for, well_named}
-use Rattle.tables.specs.declared.node.NewNode.{NewNode}
-use Rattle.tables.specs.declared.node.PlanNode.{PlanNode}
-use Rattle.tables.specs.declared.node.NewNode.TheVariants.{Table, Projection, Filter, Sort, Limit, Aggregate, Join, SubqueryAlias, Union}
-use Rattle.tables.specs.declared.placing.Placed.{Placed}
+use Rattle.stored.specs.Keys.{key_entry}
+use Rattle.stored.specs.Stored.{build_plan_node, node_inputs, inside_node, accepted_node}
+use Rattle.stored.specs.Making.{tree_over, inputs_for, well_named}
+use Rattle.stored.specs.declared.node.NewNode.{NewNode}
+use Rattle.stored.specs.declared.node.PlanNode.{PlanNode}
+use Rattle.stored.specs.declared.node.NewNode.TheVariants.{Table, Projection, Filter, Sort, Limit, Aggregate, Join, SubqueryAlias, Union}
+use Rattle.stored.specs.declared.placing.Placed.{Placed}
 
 abbrev pub own_text : NewNode → List ℕ
 own_text (Table q ns) = q.now ++ ns.now

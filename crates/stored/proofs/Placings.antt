@@ -19,18 +19,18 @@ use Rattle.names.specs.declared.parts.Span.{Span}
 use Rattle.terms.proofs.Calling.{entries-numbers}
 use Rattle.lexicon.proofs.Frames.{span_grow}
 use Rattle.terms.proofs.Facts.{grown-twice, same_view}
-use Rattle.tables.specs.Stored.{run_numbers, run_exprs, run_keys, key_at, list_in, inside_node, build_plan_node, node_inputs, accepted_node}
-use Rattle.tables.specs.Making.{new_key, key_numbers, input_numbers, tree_over, inputs_for, well_named}
-use Rattle.tables.specs.Keys.{key_entry}
-use Rattle.tables.specs.Placing.{own_text, own_entries, lent_owner, lent_given, namelessly, PlacedAs}
-use Rattle.tables.specs.Listing.{ListedAs}
+use Rattle.stored.specs.Stored.{run_numbers, run_exprs, run_keys, key_at, list_in, inside_node, build_plan_node, node_inputs, accepted_node}
+use Rattle.stored.specs.Making.{new_key, key_numbers, input_numbers, tree_over, inputs_for, well_named}
+use Rattle.stored.specs.Keys.{key_entry}
+use Rattle.stored.specs.Placing.{own_text, own_entries, lent_owner, lent_given, namelessly, PlacedAs}
+use Rattle.stored.specs.Listing.{ListedAs}
 use Rattle.entries.specs.declared.node.Run.{Run}
-use Rattle.tables.specs.declared.node.SortKey.{SortKey}
-use Rattle.tables.specs.declared.node.PlanNode.{PlanNode}
-use Rattle.tables.specs.declared.node.PlanNode.TheVariants.{Table, SubqueryAlias}
-use Rattle.tables.specs.declared.node.NewNode.{NewNode}
-use Rattle.tables.specs.declared.placing.Placed.{Placed}
-use Rattle.tables.proofs.PlanFrames.{list-grow}
+use Rattle.stored.specs.declared.node.SortKey.{SortKey}
+use Rattle.stored.specs.declared.node.PlanNode.{PlanNode}
+use Rattle.stored.specs.declared.node.PlanNode.TheVariants.{Table, SubqueryAlias}
+use Rattle.stored.specs.declared.node.NewNode.{NewNode}
+use Rattle.stored.specs.declared.placing.Placed.{Placed}
+use Rattle.stored.proofs.PlanFrames.{list-grow}
 
 key-numbers : (ks : List SortKey) → map entry_number (map key_entry ks) ≡ key_numbers ks
 key-numbers [] = refl

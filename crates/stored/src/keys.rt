@@ -1,6 +1,6 @@
 //! How the list table holds Sort keys.
 ghost use Rattle.std.specs.Prelude.{refl};
-ghost use Rattle.tables.specs.Keys.{key_entry, key_of};
+ghost use Rattle.stored.specs.Keys.{key_entry, key_of};
 
 use crate::node::SortKey;
 use entries::listed::Listed;

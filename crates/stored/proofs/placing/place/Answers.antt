@@ -7,12 +7,12 @@ use Rattle.plan.specs.Names.{good_name}
 use Rattle.plan.specs.Calls.{below, all_below, between, union_of}
 use Rattle.terms.specs.Views.{view_of, numbers_of}
 use Rattle.entries.specs.declared.node.Entry.TheVariants.{Expression, Input}
-use Rattle.tables.specs.Making.{present_in, bounded, bytes_for, entries_for, key_numbers}
-use Rattle.tables.specs.Keys.{key_entry}
-use Rattle.tables.specs.declared.node.NewNode.TheVariants.{Table, Projection, Sort, Aggregate, Join, SubqueryAlias, Union}
-use Rattle.tables.specs.declared.node.PlanNode.TheVariants.{Projection as ProjectionNode, Sort as SortNode, Aggregate as AggregateNode, Join as JoinNode, Union as UnionNode}
-use Rattle.tables.proofs.Placings.{few-listed, for-node, exprs-listed, sort-listed, inputs-listed, nameless-placed, table-placed, alias-placed, twice-listed, first-kept}
-use Rattle.tables.proofs.placing.place.Goals as goal
+use Rattle.stored.specs.Making.{present_in, bounded, bytes_for, entries_for, key_numbers}
+use Rattle.stored.specs.Keys.{key_entry}
+use Rattle.stored.specs.declared.node.NewNode.TheVariants.{Table, Projection, Sort, Aggregate, Join, SubqueryAlias, Union}
+use Rattle.stored.specs.declared.node.PlanNode.TheVariants.{Projection as ProjectionNode, Sort as SortNode, Aggregate as AggregateNode, Join as JoinNode, Union as UnionNode}
+use Rattle.stored.proofs.Placings.{few-listed, for-node, exprs-listed, sort-listed, inputs-listed, nameless-placed, table-placed, alias-placed, twice-listed, first-kept}
+use Rattle.stored.proofs.placing.place.Goals as goal
 
 pub write-given-requires : goal.write-given-requires
 write-given-requires c =

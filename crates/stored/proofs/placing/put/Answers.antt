@@ -4,7 +4,7 @@ use Rattle.std.proofs.lemmas.Bool.{le-leb}
 use Rattle.table.specs.Contents.{part}
 use Rattle.table.proofs.Parts.{part-added}
 use Rattle.terms.specs.Views.{view_of}
-use Rattle.tables.proofs.placing.put.Goals as goal
+use Rattle.stored.proofs.placing.put.Goals as goal
 
 pub returns-clause-listed : goal.returns-clause-listed
 returns-clause-listed g c =

@@ -21,11 +21,11 @@ use Rattle.entries.specs.declared.node.Entry.{Entry}
 use Rattle.entries.specs.declared.node.StoredField.{StoredField}
 use Rattle.lexicon.proofs.Frames.{span_grow}
 use Rattle.terms.proofs.Frames.{stored-grow}
-use Rattle.tables.specs.Stored.{fields_in, run_in, key_at, run_numbers, run_exprs, run_keys, build_plan_node, build_plan, plan_nodes, node_trees, list_in, inside_node, inside_plan, sound_plans, node_inputs, inputs_from, accepted_node}
+use Rattle.stored.specs.Stored.{fields_in, run_in, key_at, run_numbers, run_exprs, run_keys, build_plan_node, build_plan, plan_nodes, node_trees, list_in, inside_node, inside_plan, sound_plans, node_inputs, inputs_from, accepted_node}
 use Rattle.entries.specs.declared.node.Run.{Run}
-use Rattle.tables.specs.declared.node.PlanNode.{PlanNode}
-use Rattle.tables.specs.declared.node.PlanNode.TheVariants.{Table, Projection, Filter, Sort, Limit, Aggregate, Join, SubqueryAlias, Union}
-use Rattle.tables.specs.declared.node.PlanRecord.{PlanRecord}
+use Rattle.stored.specs.declared.node.PlanNode.{PlanNode}
+use Rattle.stored.specs.declared.node.PlanNode.TheVariants.{Table, Projection, Filter, Sort, Limit, Aggregate, Join, SubqueryAlias, Union}
+use Rattle.stored.specs.declared.node.PlanRecord.{PlanRecord}
 
 pub every_take : {X : Type 0} (p : X → Bool) (n : ℕ) (xs : List X) → every p xs ≡ true → every p (take n xs) ≡ true
 every_take p zero xs h = refl
@@ -56,7 +56,7 @@ keys-append : (ts ts' : List Expr) (es : List Entry) → all_below (length ts) (
 keys-append ts ts' [] h = refl
 keys-append ts ts' (e ∷ es) h =
     let p = and_parts (below (length ts) (entry_number e)) (all_below (length ts) (map entry_number es)) h in
-    ap₂ (λ x y. record { by = x; direction = Rattle.tables.specs.Stored.entry_direction e } ∷ y) (get_or_append_left ts ts' no_expr (entry_number e) (ltb-true (entry_number e) (length ts) p.0)) (keys-append ts ts' es p.1)
+    ap₂ (λ x y. record { by = x; direction = Rattle.stored.specs.Stored.entry_direction e } ∷ y) (get_or_append_left ts ts' no_expr (entry_number e) (ltb-true (entry_number e) (length ts) p.0)) (keys-append ts ts' es p.1)
 
 module _ (v : View) (ts' : List Expr) (bs' : List ℕ) (es' : List Entry) where
   run-grow : (l : Run) → run_in v.entries l ≡ true → (run_in (v.entries ++ es') l ≡ true) × (part (v.entries ++ es') l.first l.count ≡ part v.entries l.first l.count)

@@ -27,9 +27,9 @@ use Rattle.entries.specs.declared.node.Entry.{Entry}
 use Rattle.entries.specs.declared.node.Entry.TheVariants.{Expression, Key, Input}
 use Rattle.entries.specs.declared.node.StoredField.{StoredField}
 use Rattle.entries.specs.declared.node.Run.{Run}
-use Rattle.tables.specs.declared.node.PlanNode.{PlanNode}
-use Rattle.tables.specs.declared.node.PlanNode.TheVariants.{Table, Projection, Filter, Sort, Limit, Aggregate, Join, SubqueryAlias, Union}
-use Rattle.tables.specs.declared.node.PlanRecord.{PlanRecord}
+use Rattle.stored.specs.declared.node.PlanNode.{PlanNode}
+use Rattle.stored.specs.declared.node.PlanNode.TheVariants.{Table, Projection, Filter, Sort, Limit, Aggregate, Join, SubqueryAlias, Union}
+use Rattle.stored.specs.declared.node.PlanRecord.{PlanRecord}
 
 abbrev pub fields_in : List ℕ → List StoredField → Run → List Field
 fields_in bytes fields r = map (stored_field bytes) (part fields r.first r.count)

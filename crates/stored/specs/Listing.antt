@@ -4,7 +4,7 @@ use Rattle.std.specs.Prelude.{◌≡◌, true, List, [], length}
 use Rattle.table.specs.Contents.{part}
 use Rattle.terms.specs.Views.{View, grown}
 use Rattle.entries.specs.declared.node.Entry.{Entry}
-use Rattle.tables.specs.Stored.{run_in}
+use Rattle.stored.specs.Stored.{run_in}
 use Rattle.entries.specs.declared.node.Run.{Run}
 
 pub record ListedAs (v : View) (es : List Entry) (r : Run) (v' : View) : Type 0 where

@@ -20,11 +20,11 @@ use Rattle.entries.specs.declared.node.Entry.{Entry}
 use Rattle.entries.specs.declared.node.StoredField.{StoredField}
 use Rattle.lexicon.proofs.Frames.{every_append}
 use Rattle.terms.proofs.Frames.{stored-grow}
-use Rattle.tables.specs.Stored.{fields_in, run_in, run_numbers, run_exprs, run_keys, build_plan_node, build_plan, plan_nodes, plan_trees, node_trees, list_in, inside_node, inside_plan, accepted_node, sound_plans, same_fields, fielded_at, fielded, small_numbers}
-use Rattle.tables.specs.declared.node.PlanNode.{PlanNode}
-use Rattle.tables.specs.declared.node.PlanNode.TheVariants.{Table, Projection, Filter, Sort, Limit, Aggregate, Join, SubqueryAlias, Union}
-use Rattle.tables.specs.declared.node.PlanRecord.{PlanRecord}
-use Rattle.tables.proofs.PlanFrames.{plans-grow, fields-grow}
+use Rattle.stored.specs.Stored.{fields_in, run_in, run_numbers, run_exprs, run_keys, build_plan_node, build_plan, plan_nodes, plan_trees, node_trees, list_in, inside_node, inside_plan, accepted_node, sound_plans, same_fields, fielded_at, fielded, small_numbers}
+use Rattle.stored.specs.declared.node.PlanNode.{PlanNode}
+use Rattle.stored.specs.declared.node.PlanNode.TheVariants.{Table, Projection, Filter, Sort, Limit, Aggregate, Join, SubqueryAlias, Union}
+use Rattle.stored.specs.declared.node.PlanRecord.{PlanRecord}
+use Rattle.stored.proofs.PlanFrames.{plans-grow, fields-grow}
 
 -- the test of two lists of fields decides whether they are one
 bytes_same : (a b : List ℕ) → bytes_eq a b ≡ true → a ≡ b

@@ -1,0 +1,3 @@
+pub mod PlanFrames
+pub mod PlanFacts
+pub mod Placings

@@ -1,0 +1,5 @@
+pub mod Stored
+pub mod Making
+pub mod Placing
+pub mod Listing
+pub mod Keys
