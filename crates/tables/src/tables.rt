@@ -12,15 +12,12 @@ use table::table::Table;
 use terms::terms::Terms;
 
 mod adding;
-pub mod attempting;
 mod expressions;
 mod inputs;
 mod marking;
 mod opening;
 mod origins;
 mod reading;
-#[cfg(test)]
-mod tests;
 
 #[derive(Drop)]
 pub struct Tables {

@@ -3,36 +3,21 @@ ghost use Rattle.std.specs.Prelude.{◌≡◌, MatchResult};
 ghost use Rattle.tables.specs.Begun.{TablesBegin};
 ghost use Rattle.tables.specs.Holding.{model_of};
 
-use super::Tables;
-use super::attempting::Attempt;
+use crate::Attempt;
 use entries::node::ExprId;
-use expression::building::{self, GivenLiteral};
+use expression::building::GivenLiteral;
 use lexicon::lexicon::Lexicon;
 use plan::fault::Fault;
 use std::test::Fail;
-
-/// A text literal.
-// By the calls of `expression`, which promise that the tables begin with what there was.
-fn text(tables: &mut Tables, bytes: &[u8]) -> Result<ExprId, Fault>
-    ensures { TablesBegin tables.old tables.new }
-{
-    building::literal(&mut tables.terms, GivenLiteral::Text(bytes))
-}
-
-/// An alias.
-fn alias(tables: &mut Tables, inner: ExprId, name: &[u8]) -> Result<ExprId, Fault>
-    ensures { TablesBegin tables.old tables.new }
-{
-    building::alias(&mut tables.terms, inner, name, None)
-}
+use tables::tables::Tables;
 
 /// A text literal and an alias of it. A name of no byte is refused.
 fn aliased(tables: &mut Tables, name: &[u8]) -> Result<ExprId, Fault>
     ensures { MatchResult result (λ _. TablesBegin tables.old tables.new) (λ _. model_of tables.new ≡ model_of tables.old) }
 {
     let attempt = Attempt::begin(tables);
-    let inner = text(attempt.tables, b"some text")?;
-    let outer = alias(attempt.tables, inner, name)?;
+    let inner = attempt.tables.literal(GivenLiteral::Text(b"some text"))?;
+    let outer = attempt.tables.alias(inner, name, None)?;
     attempt.keep();
     Ok(outer)
 }

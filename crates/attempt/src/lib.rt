@@ -1,10 +1,15 @@
 //! A guard that puts the tables back, for calls that make several things.
+#![tactic(auto)]
+
 ghost use Rattle.std.specs.Prelude.{◌≡◌};
 ghost use Rattle.tables.specs.Begun.{Begun, SameTables};
 ghost use Rattle.tables.specs.Holding.{model_of};
 
-use super::Tables;
-use crate::marks::Marks;
+use tables::marks::Marks;
+use tables::tables::Tables;
+
+#[cfg(test)]
+mod tests;
 
 /// Tables in which several things are made. Dropped, as `?` does, it puts them back to what they held when it began.
 pub struct Attempt<'a> {
