@@ -166,18 +166,18 @@ fn what_a_swap_makes_has_the_origin_of_the_node_asked_about(rt: HostRuntime) -> 
     let t = book.table(b"t", b"a")?;
     let l = book.limit(t, 0, 1)?;
     let f = book.filter(l, e)?;
-    assert_eq!(rt; book.plan(l)?.origin, PlanId(1));
-    assert_eq!(rt; book.plan(f)?.origin, PlanId(2));
+    assert_eq!(rt; book.reader().plan(l)?.origin, PlanId(1));
+    assert_eq!(rt; book.reader().plan(f)?.origin, PlanId(2));
     let lower = book.swap(l, 0, t)?;
     assert!(rt; has_counts(&book, 1, 4));
     let upper = book.swap(f, 0, lower)?;
     assert!(rt; has_counts(&book, 1, 5));
     let again = book.swap(upper, 0, l)?;
     assert!(rt; has_counts(&book, 1, 6));
-    assert_eq!(rt; book.plan(lower)?.origin, PlanId(1));
-    assert_eq!(rt; book.plan(upper)?.origin, PlanId(2));
-    assert_eq!(rt; book.plan(again)?.origin, PlanId(2));
-    assert_eq!(rt; book.plan(t)?.origin, PlanId(0));
+    assert_eq!(rt; book.reader().plan(lower)?.origin, PlanId(1));
+    assert_eq!(rt; book.reader().plan(upper)?.origin, PlanId(2));
+    assert_eq!(rt; book.reader().plan(again)?.origin, PlanId(2));
+    assert_eq!(rt; book.reader().plan(t)?.origin, PlanId(0));
     Ok(())
 }
 
@@ -185,14 +185,15 @@ fn what_a_swap_makes_has_the_origin_of_the_node_asked_about(rt: HostRuntime) -> 
 fn a_trace_takes_a_node_that_is_there_and_a_good_name(rt: HostRuntime) -> Result<(), Fail> {
     let mut book = opened()?;
     let t = book.table(b"t", b"a")?;
-    assert!(rt; refused_with(book.trace(PlanId(1), b"a"), 1));
-    assert!(rt; refused_with(book.trace(PlanId(u32::MAX), b""), 1));
-    assert!(rt; refused_with(book.trace(t, &[b'a'; 256]), 2));
-    assert!(rt; refused_with(book.trace(t, b"a,b"), 2));
-    assert!(rt; refused_with(book.trace(t, b"a\n"), 2));
-    assert!(rt; refused_with(book.trace(t, b""), 2));
+    let reader = book.reader();
+    assert!(rt; refused_with(reader.trace(PlanId(1), b"a"), 1));
+    assert!(rt; refused_with(reader.trace(PlanId(u32::MAX), b""), 1));
+    assert!(rt; refused_with(reader.trace(t, &[b'a'; 256]), 2));
+    assert!(rt; refused_with(reader.trace(t, b"a,b"), 2));
+    assert!(rt; refused_with(reader.trace(t, b"a\n"), 2));
+    assert!(rt; refused_with(reader.trace(t, b""), 2));
     assert!(rt; has_counts(&book, 0, 1));
-    assert_eq!(rt; book.trace(t, &[b'a'; 255])?, None);
+    assert_eq!(rt; reader.trace(t, &[b'a'; 255])?, None);
     Ok(())
 }
 
@@ -207,13 +208,14 @@ fn a_trace_answers_the_topmost_projection(rt: HostRuntime) -> Result<(), Fail> {
     let low = book.projection(t, &[x, y])?;
     let high = book.projection(low, &[e, qy])?;
     let l = book.limit(high, 0, 1)?;
-    assert_eq!(rt; book.trace(l, b"y")?, Some(PlanId(2)));
-    assert_eq!(rt; book.trace(high, b"y")?, Some(PlanId(2)));
-    assert_eq!(rt; book.trace(low, b"y")?, Some(PlanId(1)));
-    assert_eq!(rt; book.trace(l, b"x")?, Some(PlanId(1)));
-    assert_eq!(rt; book.trace(l, b"z")?, None);
-    assert_eq!(rt; book.trace(l, b"a")?, None);
-    assert_eq!(rt; book.trace(t, b"y")?, None);
+    let reader = book.reader();
+    assert_eq!(rt; reader.trace(l, b"y")?, Some(PlanId(2)));
+    assert_eq!(rt; reader.trace(high, b"y")?, Some(PlanId(2)));
+    assert_eq!(rt; reader.trace(low, b"y")?, Some(PlanId(1)));
+    assert_eq!(rt; reader.trace(l, b"x")?, Some(PlanId(1)));
+    assert_eq!(rt; reader.trace(l, b"z")?, None);
+    assert_eq!(rt; reader.trace(l, b"a")?, None);
+    assert_eq!(rt; reader.trace(t, b"y")?, None);
     assert!(rt; has_counts(&book, 4, 4));
     Ok(())
 }
@@ -230,10 +232,11 @@ fn a_trace_goes_through_inputs_from_left_to_right(rt: HostRuntime) -> Result<(),
     let back = book.union(&[g, two, one])?;
     let last = book.union(&[t, g, one])?;
     let deep = book.union(&[last, two])?;
-    assert_eq!(rt; book.trace(g, b"x")?, None);
-    assert_eq!(rt; book.trace(back, b"x")?, Some(PlanId(2)));
-    assert_eq!(rt; book.trace(last, b"x")?, Some(PlanId(1)));
-    assert_eq!(rt; book.trace(deep, b"x")?, Some(PlanId(1)));
+    let reader = book.reader();
+    assert_eq!(rt; reader.trace(g, b"x")?, None);
+    assert_eq!(rt; reader.trace(back, b"x")?, Some(PlanId(2)));
+    assert_eq!(rt; reader.trace(last, b"x")?, Some(PlanId(1)));
+    assert_eq!(rt; reader.trace(deep, b"x")?, Some(PlanId(1)));
     Ok(())
 }
 

@@ -23,7 +23,8 @@ mod valuing;
 fn fits_at<E: Engine>(book: &OpenBook, engine: &E, number: u8) -> bool
     ensures { result ≡ suits_at (E.Engine.strict engine.now) number (function_at (book_of book.now).functions number) }
 {
-    book.function(number).is_none_or(|declared| !declared.strict || engine.is_strict(number as u32))
+    let function = book.reader().function(number);
+    function.is_none_or(|declared| !declared.strict || engine.is_strict(number as u32))
 }
 
 /// Whether every function that the book declares strict is strict in the engine.
@@ -47,10 +48,11 @@ pub fn evaluate<E: Engine>(
 ) -> Result<Value, Fault>
     ensures { Answers (book_of book.now) (E.Engine.meaning engine.now) e.0 p.0 values.now row.now scratch.old scratch.new result }
 {
-    ask(book.terms().has(e), Question::Present)?;
-    let fields = book.node_fields(p)?;
+    let reader = book.reader();
+    ask(reader.terms().has(e), Question::Present)?;
+    let fields = reader.node_fields(p)?;
     let row = Row {
-        terms: book.terms(),
+        terms: reader.terms(),
         fields,
         values,
         text: row,

@@ -1,4 +1,4 @@
--- What a reading call answers; cited by src/looking.rt.
+-- What a reading call answers; cited by src/reader/reading.rt.
 --     Looked qs P r      the first question answered no refuses; otherwise P of the answer
 --     entry_count t      how many list entries there are
 --     field_in t p i      the field at a place of a node

@@ -1,4 +1,4 @@
--- What the walk of a trace answers; cited by src/tracing.rt.
+-- What the walk of a trace answers; cited by src/reader/tracing.rt.
 --     found_plan a      the number of the node that was found
 --     WalkedTo m i n a      the first node at or below i that holds the alias n, if there is one
 use Rattle.std.specs.Prelude.{◌≡◌, ℕ, ◌<◌, Some, None, Option}

@@ -1,6 +1,7 @@
 //! A plan as an indented tree, each node with its fields and its origin.
 use book::opened::OpenBook;
 use entries::node::{Entry, ExprId, ExprNode, Literal, PlanId, Span, StoredField};
+use looking::reader::Reader;
 use plan::code::{Direction, JoinKind};
 use std::io;
 use std::str::from_utf8;
@@ -38,7 +39,7 @@ fn direction_words(direction: Direction) -> &'static str {
 #[derive(Drop)]
 struct Printer<'a, P> {
     rt: &'a P,
-    book: &'a OpenBook,
+    book: Reader<'a>,
 }
 
 impl<P: Print> Printer<'_, P> {
@@ -242,15 +243,18 @@ impl<P: Print> Printer<'_, P> {
 
 /// Prints a plan; a tree has at most 64 nodes, so no more levels.
 pub fn explain(rt: &impl Print, book: &OpenBook, p: PlanId) -> io::Result<()> {
+    let book = book.reader();
     Printer { rt, book }.show_plan(p, 64)
 }
 
 /// Prints an expression; a tree has at most 256 nodes, so no more levels.
 pub fn show_expression(rt: &impl Print, book: &OpenBook, e: ExprId) -> io::Result<()> {
+    let book = book.reader();
     Printer { rt, book }.show_expr(e, 256)
 }
 
 /// Prints the fields of a node.
 pub fn show_columns(rt: &impl Print, book: &OpenBook, p: PlanId) -> io::Result<()> {
+    let book = book.reader();
     Printer { rt, book }.show_columns(p)
 }

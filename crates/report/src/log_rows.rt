@@ -90,7 +90,8 @@ struct Showing<'a, P, E> {
 impl<P: Print, E: Engine> Showing<'_, P, E> {
     /// A text between quotes; one that reaches past the end counts as null.
     fn show_text(&self, v: Value) -> io::Result<()> {
-        match shown(self.valuing.book.terms().bytes(), self.valuing.text, v) {
+        let book = self.valuing.book.reader();
+        match shown(book.terms().bytes(), self.valuing.text, v) {
             Ok(bytes) => {
                 print!(self.rt; "'")?;
                 show_bytes(self.rt, bytes)?;

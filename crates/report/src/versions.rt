@@ -45,7 +45,7 @@ pub fn compared(rt: &impl Print, book: &OpenBook, a: PlanId, b: PlanId) -> io::R
 /// Tells which projection at or below a node gives a column its name.
 pub fn traced(rt: &impl Print, book: &OpenBook, p: PlanId, name: &str) -> io::Result<()> {
     print!(rt; "trace {name} from node {}: ", p.0)?;
-    match book.trace(p, name.as_bytes()) {
+    match book.reader().trace(p, name.as_bytes()) {
         Ok(Some(projection)) => println!(rt; "node {}", projection.0),
         Ok(None) => println!(rt; "none"),
         Err(f) => refused(rt, f),

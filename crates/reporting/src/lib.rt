@@ -43,7 +43,7 @@ fn node_of(book: &OpenBook, p: PlanId) -> anyhow::Result<PlanNode>
     ensures there { is_ok result ≡ below (count_of (book_of book.now)) p.0 }
     ensures node { IfOk result (λ node. tree_in book.now.tables p.0 ≡ build_plan_node (view_in book.now.tables) (fields_at book.now.tables p.0) (trees_in book.now.tables) node) }
 {
-    match book.plan(p) {
+    match book.reader().plan(p) {
         Ok(record) => Ok(record.node),
         Err(f) => bail!("node {}: refused: {f}", p.0),
     }
@@ -100,7 +100,8 @@ impl<E: Engine> Valuing<'_, E> {
     fn column(&self, report: Report, i: u32, row: &[Value]) -> Result<Value, Fault>
         ensures { Settled (column_asked self.now.book.now report i (length row.now)) (ValueOf (book_of self.now.book.now) (E.Engine.meaning self.now.engine.now) self.now.text.now (column_of self.now.book.now report i) report.input.0 row.now) (Unit {0}) result }
     {
-        self.value(self.book.listed(report.list, i)?, report.input, row)
+        let e = self.book.reader().listed(report.list, i)?;
+        self.value(e, report.input, row)
     }
 
     /// What the report makes of a row of its projection's input.

@@ -34,7 +34,8 @@ pub fn refused_with<T: Drop>(answer: Result<T, Fault>, question: u8) -> bool
 pub fn has_counts(book: &OpenBook, exprs: usize, plans: usize) -> bool
     ensures { result ≡ (length (book_of book.now).exprs == exprs) && (count_of (book_of book.now) == plans) }
 {
-    book.expr_count() == exprs && book.len() == plans
+    let reader = book.reader();
+    reader.expr_count() == exprs && reader.len() == plans
 }
 
 /// A book with functions 0 to 5.

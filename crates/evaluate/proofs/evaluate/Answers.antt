@@ -26,9 +26,9 @@ of-book b t fields meaning e p values row before after r is shown here there s =
 
 pub returns : goal.returns
 returns g c =
-    let b = c.args.book.now.tables in
+    let b = c.reader-reader.result.tables.now in
     let seen = c.in_ok-fields.ensures in
     let here = sym (c.has.ensures ∙ ap (λ t. below (count t) c.args.e.0) c.terms.ensures) ∙ c.in_ok-ask.ensures in
     let there = (all_yes Present (below (plan_count b) c.args.p.0) [] seen.0).0 in
-    of-book b c.terms-2.result.now c.in_ok-fields.fields.now (g.E.Engine.meaning c.args.engine.now) c.args.e.0 c.args.p.0 c.args.values.now c.args.row.now c.args.scratch.now c.asked_value.new.scratch c.asked_value.result
-    c.terms-2.ensures seen.1.0 here there c.asked_value.ensures
+    let answers = of-book b c.terms-2.result.now c.in_ok-fields.fields.now (g.E.Engine.meaning c.args.engine.now) c.args.e.0 c.args.p.0 c.args.values.now c.args.row.now c.args.scratch.now c.asked_value.new.scratch c.asked_value.result c.terms-2.ensures seen.1.0 here there c.asked_value.ensures in
+    subst (λ t. Answers (model_of t) (g.E.Engine.meaning c.args.engine.now) c.args.e.0 c.args.p.0 c.args.values.now c.args.row.now c.args.scratch.now c.asked_value.new.scratch c.asked_value.result) c.reader-reader.ensures answers

@@ -1,7 +1,10 @@
-use Rattle.std.proofs.Common.{ℕ, ◌+◌, ◌&&◌, leb, ltb, [], ◌∷◌, length, subst}
+use Rattle.std.proofs.Common.{◌≡◌, ℕ, ◌+◌, ◌&&◌, leb, ltb, [], ◌∷◌, length, slice_index, Ok, subst}
 use Rattle.plan.specs.Faults.{Asked, Settled}
 use Rattle.plan.specs.declared.fault.Question.TheVariants.{Bounded}
-use Rattle.looking.specs.Looking.{entry_count}
+use Rattle.tables.specs.Holding.{view_in}
+use Rattle.terms.specs.Build.{numbers_in}
+use Rattle.entries.specs.declared.node.ExprId.{ExprId}
+use Rattle.looking.specs.Looking.{Looked, entry_count}
 use Rattle.book.specs.Opened.{book_of}
 use Rattle.evaluate.specs.Evaluating.{asked}
 use Rattle.reporting.specs.Reporting.{ValueOf, column_of}
@@ -18,6 +21,7 @@ returns g c =
     let p = c.args.report.input.0 in
     let row = c.args.row.now in
     let e = column_of b c.args.report c.args.i in
+    let listed = subst (λ t. Looked ((Bounded, leb (list.first + list.count) (entry_count t) && ltb c.args.i list.count) ∷ []) (λ (e : ExprId). e.0 ≡ slice_index (numbers_in (view_in t).entries list.first list.count) c.args.i) (Ok c.in_ok-e.e)) c.reader.ensures c.in_ok-e.ensures in
     let held : Asked = (Bounded, leb (list.first + list.count) (entry_count b.tables) && ltb c.args.i list.count) in
-    let value = subst (λ (n : ℕ). Settled (asked m n p (length row) 256) (ValueOf m meaning text n p row) (Unit {0}) c.value.result) c.in_ok-listed.ensures.1 c.value.ensures in
-    settled-on (held ∷ []) (asked m e p (length row) 256) (ValueOf m meaning text e p row) c.value.result c.in_ok-listed.ensures.0 value
+    let value = subst (λ (n : ℕ). Settled (asked m n p (length row) 256) (ValueOf m meaning text n p row) (Unit {0}) c.value.result) listed.1 c.value.ensures in
+    settled-on (held ∷ []) (asked m e p (length row) 256) (ValueOf m meaning text e p row) c.value.result listed.0 value
