@@ -1,0 +1,42 @@
+//! A node that is made at a stage.
+ghost use Rattle.plan.specs.Faults.{fault};
+ghost use Rattle.rewriting.specs.Extracting.{made};
+ghost use Rattle.std.specs.Prelude.{◌≡◌, true};
+ghost use Rattle.stepping.specs.Steps.{Buildable, Steps};
+ghost use Rattle.tables.specs.Begun.{TablesBegin};
+ghost use Rattle.tables.specs.Holding.{model_of, view_in};
+ghost use Rattle.tables.specs.Making.{bounded, present, tree_for, well_named};
+
+use asking::making::make;
+use entries::node::PlanId;
+use plan::fault::{Fault, Stage};
+use tables::node::NewNode;
+use tables::tables::Tables;
+
+/// A refusal by the same question at another stage and level.
+fn at_stage(refused: Fault, stage: Stage, level: u8) -> Fault
+    ensures { result ≡ fault refused.question stage level }
+{
+    Fault {
+        question: refused.question,
+        stage,
+        level,
+    }
+}
+
+/// Makes a node that is no Table, where what it names is there. A refusal is of this stage and level.
+pub fn make_at(
+    tables: &mut Tables,
+    node: NewNode<'_>,
+    stage: Stage,
+    level: u8,
+) -> Result<PlanId, Fault>
+    requires present { present tables.old node ≡ true }
+    requires bounded { bounded node ≡ true }
+    requires named { well_named node ≡ true }
+    requires kind { Buildable tables.old node }
+    ensures steps { Steps (model_of tables.old) 0 (made (view_in tables.old).functions stage level (tree_for tables.old node.entry)) result (model_of tables.new) }
+    ensures begins { TablesBegin tables.old tables.new }
+{
+    make(tables, node).map_err(|refused| at_stage(refused, stage, level))
+}
