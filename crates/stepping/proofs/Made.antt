@@ -19,7 +19,8 @@ use Rattle.extracting.proofs.Spaces.{no-room, within-plus, within-then}
 use Rattle.rewriting.proofs.Building.{all_yes, first-yes, passed}
 use Rattle.rewriting.specs.Book.{spent_by}
 use Rattle.rewriting.specs.Extracting.{Outcome, built, made, made_if, refused}
-use Rattle.rewriting.specs.Generated.{next_number}
+use Rattle.numbering.proofs.Kept.{node-numbers}
+use Rattle.numbering.proofs.Places.{plan_own}
 use Rattle.rewriting.specs.Outlay.{Tally, charged}
 use Rattle.swapping.proofs.Remade.{NotTable, made-anew}
 use Rattle.swapping.specs.Remaking.{TreeMade, TreeStored, tree_asked}
@@ -43,6 +44,17 @@ no-table t (Aggregate i gs us) b = tt
 no-table t (Join k l r cs) b = tt
 no-table t (SubqueryAlias i n) b = absurd b
 no-table t (Union is) b = absurd b
+
+no-name : (t : Tables) (n : NewNode) → Buildable t n → plan_own (tree_for t n) ≡ []
+no-name t (Table q ns) b = absurd b
+no-name t (Projection i l) b = refl
+no-name t (Filter i e) b = refl
+no-name t (Sort i ks) b = refl
+no-name t (Limit i s c) b = absurd b
+no-name t (Aggregate i gs us) b = refl
+no-name t (Join k l r cs) b = refl
+no-name t (SubqueryAlias i n) b = absurd b
+no-name t (Union is) b = absurd b
 
 module _ (t : Tables) (good : AllGood (model_of t)) where
   good-in : (i : ℕ) → below (plan_count t) i ≡ true → Good (view_in t).functions (tree_in t i)
@@ -130,7 +142,7 @@ abbrev pub moved : Stage → ℕ → Result PlanId Fault → Result PlanId Fault
 moved stage level (Ok p) = Ok p
 moved stage level (Err f) = Err (fault f.question stage level)
 
-module _ (t u : Tables) (n : NewNode) (stage : Stage) (level : ℕ) (kind : Buildable t n) (there : present t n ≡ true) (numbers : next_number (model_of u) ≤ next_number (model_of t)) where
+module _ (t u : Tables) (n : NewNode) (stage : Stage) (level : ℕ) (kind : Buildable t n) (there : present t n ≡ true) where
   abbrev F : Functions
   F = (view_in t).functions
 
@@ -151,7 +163,7 @@ module _ (t u : Tables) (n : NewNode) (stage : Stage) (level : ℕ) (kind : Buil
           tree = tree-stored (model_of t) (model_of u) p (inputs_for n) r.0 h.1;
           extends = extends-one (model_of t) (model_of u) p (inputs_for n) r.0 h.1 (λ g. good-made t g n kind there (passed F p (all_yes (node_asked F p) yes)));
           spent = within-then v k.spent (model_of t).used (own_space F p) (model_of u).used s.spent (within-plus _ _ _ h.1.used);
-          numbers = omega (arith, numbers, s.numbers);
+          numbers = omega (arith, node-numbers t n r.0 (model_of u) (no-name t n kind) there a.1, s.numbers);
         },
       )
   made-step (Err f) a = λ v k s.

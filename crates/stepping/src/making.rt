@@ -38,5 +38,9 @@ pub fn make_at(
     ensures steps { Steps (model_of tables.old) 0 (made (view_in tables.old).functions stage level (tree_for tables.old node.entry)) result (model_of tables.new) }
     ensures begins { TablesBegin tables.old tables.new }
 {
-    make(tables, node).map_err(|refused| at_stage(refused, stage, level))
+    // A match: of the closure that `map_err` takes only its own contract is known.
+    match make(tables, node) {
+        Ok(p) => Ok(p),
+        Err(refused) => Err(at_stage(refused, stage, level)),
+    }
 }
