@@ -10,3 +10,4 @@ mod Turns
 mod Columned
 mod Columning
 mod Lists
+mod Numbers

@@ -22,7 +22,8 @@ use Rattle.extracting.specs.declared.extractor.Extractor.{Extractor}
 use Rattle.extracting.specs.declared.inputs.Inputs.{Inputs}
 use Rattle.extracting.proofs.Cases.{walk-same}
 use Rattle.extracting.proofs.Growing.{tree-stays}
-use Rattle.extracting.proofs.Rewritten.{all-full, all_end}
+use Rattle.extracting.proofs.Numbers.{numbered-more}
+use Rattle.extracting.proofs.Rewritten.{all-onward, all_end}
 use Rattle.extracting.proofs.Spaces.{AtMost, first-space, listed-push, no-room}
 use Rattle.extracting.proofs.Steps.{Partly, all_are, one-more}
 
@@ -83,7 +84,7 @@ module _ (t : Tables) (is : Inputs) (given : List ExprId) (x : Extractor) (prese
               let e = ap (λ (r : List Expr × Routing.Extractor). list_space r.0) are ∙ ap list_space (sym (append_assoc done (here.0 ∷ []) later.0)) in
               let m = subst (λ s. AtMost s (list_space ((done ++ here.0 ∷ []) ++ later.0))) (listed-push done here.0) (first-space (done ++ here.0 ∷ []) later.0) in
               inl (h.0, ap (fits (model_of t).used) e ∙ no-room (model_of t).used (list_space done) (model_of u).used (tree_space here.0) _ k.spent m h.1)
-          go (inr h) = inr (h.0, ap (λ (r : List Expr × Routing.Extractor). r.1.full) are ∙ all-full F own (drop (i + 1) ts) here.1 h.1)
+          go (inr h) = inr (h.0, ap (λ (r : List Expr × Routing.Extractor). r.1.full) are ∙ (all-onward F own (drop (i + 1) ts) here.1).full h.1)
 
       pub turn : (u' : Tables) (y' : Extractor) (part : ExprId) → Walked u step part.0 u' y' → (made' : List ExprId) → made' ≡ made ++ part ∷ [] → TablesBegin u u'
           → Partly t u' y' whole (routing_extract_all F own (drop (i + 1) ts) (extractor_of (view_in u') y')) given made' (i + 1) false
@@ -103,5 +104,6 @@ module _ (t : Tables) (is : Inputs) (given : List ExprId) (x : Extractor) (prese
           inside = k.inside;
           few = k.few;
           grows = k.grows;
+          numbers = numbered-more (model_of t) (model_of u) y.next whole.1.next (omega (arith, ap (λ (r : List Expr × Routing.Extractor). r.1.next) e)) k.numbers;
           spent = subst (λ l. Within (model_of t).used (list_space l) (model_of u).used) (sym (ap (λ (r : List Expr × Routing.Extractor). r.0) e)) k.spent;
         }

@@ -19,15 +19,16 @@ use Rattle.terms.specs.Views.{numbers_of}
 use Rattle.entries.specs.declared.node.ExprId.{ExprId}
 use Rattle.terms.proofs.Trees.{picked_same}
 use Rattle.extracting.specs.Extractors.{Inside, extractor_of}
-use Rattle.extracting.specs.Walking.{Answered, Built, BuiltBy, Grows, NoNumber, NoRoom, Walked}
+use Rattle.extracting.specs.Walking.{Answered, Built, BuiltBy, Grows, NoNumber, NoRoom, Numbered, Walked}
 use Rattle.extracting.specs.declared.extractor.Extractor.{Extractor}
 use Rattle.extracting.proofs.Growing.{extractor-stays, grows-then, longer, tree-stays}
-use Rattle.extracting.proofs.Rewritten.{all-full, all-longer, all-turn}
+use Rattle.extracting.proofs.Numbers.{numbered-built, numbered-turn}
+use Rattle.extracting.proofs.Rewritten.{Onward, all-onward, all-turn, walk-onward}
 use Rattle.extracting.proofs.Spaces.{AtMost, alias-space, at-most-nothing, at-most-then, call-space, listed-push, no-room, part_space, within-same, within-then, within_more}
 
 -- what was walked stays so as the tables grow, with a node made of it
 module _ (t u u' : Tables) (x : Extractor) (w : Expr × Routing.Extractor) (made : ℕ) (a : Walked t w made u x) where
-  alias-made : (f : Field) (r : ℕ) → Built u (space 1 0 0 0 0) (alias w.0 f) r u' → Walked t (alias w.0 f, w.1) r u' x
+  alias-made : (f : Field) (r : ℕ) → Built u (space 1 0 0 0 0) 0 (alias w.0 f) r u' → Walked t (alias w.0 f, w.1) r u' x
   alias-made f r b =
       let k = extractor-stays u u' b.grows x a.inside in
       record {
@@ -37,10 +38,11 @@ module _ (t u u' : Tables) (x : Extractor) (w : Expr × Routing.Extractor) (made
         inside = k.1;
         few = omega (arith, a.few, longer u u' b.grows);
         grows = grows-then (model_of t) (model_of u) (model_of u') a.grows b.grows;
+        numbers = numbered-built (model_of t) (model_of u) (model_of u') w.1.next a.numbers b.numbers;
         spent = within_more _ _ _ _ (within-then _ _ _ _ _ a.spent b.spent) (alias-space w.0 f);
       }
 
-  pub alias-step : (f : Field) (r : Result ExprId Fault) → BuiltBy u (space 1 0 0 0 0) (alias w.0 f) r u' → Answered t (alias w.0 f, w.1) r u' x
+  pub alias-step : (f : Field) (r : Result ExprId Fault) → BuiltBy u (space 1 0 0 0 0) 0 (alias w.0 f) r u' → Answered t (alias w.0 f, w.1) r u' x
   alias-step f (Ok r) b = alias-made f r.0 b
   alias-step f (Err d) b = inl (b.0, no-room (model_of t).used (tree_space w.0) (model_of u).used (space 1 0 0 0 0) (tree_space (alias w.0 f)) a.spent (alias-space w.0 f) b.1)
 
@@ -61,6 +63,7 @@ pub record Partly (t u : Tables) (x : Extractor) (whole : List Expr × Routing.E
   pub inside : Inside (view_in u) x
   pub few : length x.entries ≤ length (view_in u).trees
   pub grows : Grows (model_of t) (model_of u)
+  pub numbers : Numbered (model_of t) x.next (model_of u)
   pub spent : Within (model_of t).used (list_space (exprs_in (view_in u).trees (numbers_of made))) (model_of u).used
   pub begins : TablesBegin t u
   pub unchanged : same ≡ true → numbers_of made ≡ numbers_of (take i given)
@@ -88,14 +91,17 @@ module _ (F : Functions) (own : Expr → Option Side) (t u u' : Tables) (x x' : 
   pub all_are : whole ≡ (done ++ here.0 ∷ later.0, later.1)
   all_are = k.whole_is ∙ ap (λ (r : List Expr × Routing.Extractor). (done ++ r.0, r.1)) (all-turn F own ts i no_expr (extractor_of (view_in u) x) lt)
 
+  onward : Onward here.1 later.1
+  onward = all-onward F own (drop (i + 1) ts) here.1
+
   pub needed-here : length whole.1.needed ≤ 256 → length here.1.needed ≤ 256
-  needed-here h = omega (arith, h, ap (λ (r : List Expr × Routing.Extractor). length r.1.needed) all_are, all-longer F own (drop (i + 1) ts) here.1)
+  needed-here h = omega (arith, h, ap (λ (r : List Expr × Routing.Extractor). length r.1.needed) all_are, onward.longer)
 
   pub call-refused : (n : ℕ) (d : Fault) → NoRoom u (tree_space here.0) d ⊎ NoNumber here.1 d → NoRoom t (tree_space (call n (arguments whole.0))) d ⊎ NoNumber whole.1 d
   call-refused n d (inl h) =
       let e = ap (λ (r : List Expr × Routing.Extractor). tree_space (call n (arguments r.0))) all_are in
       inl (h.0, ap (fits (model_of t).used) e ∙ no-room (model_of t).used (list_space done) (model_of u).used (tree_space here.0) _ k.spent (part_space n done later.0 here.0) h.1)
-  call-refused n d (inr h) = inr (h.0, ap (λ (r : List Expr × Routing.Extractor). r.1.full) all_are ∙ all-full F own (drop (i + 1) ts) here.1 h.1)
+  call-refused n d (inr h) = inr (h.0, ap (λ (r : List Expr × Routing.Extractor). r.1.full) all_are ∙ onward.full h.1)
 
   module _ (part : ExprId) (a : Walked u here part.0 u' x') (made' : List ExprId) (pushed : made' ≡ made ++ part ∷ []) (begins : TablesBegin u u') (same' : Bool) (d : ExprId) (unchanged : same' ≡ true → (same ≡ true) × (part.0 ≡ (get_or given i d).0)) (few-given : i < length given) where
     numbers : numbers_of made' ≡ numbers_of made ++ part.0 ∷ []
@@ -118,6 +124,7 @@ module _ (F : Functions) (own : Expr → Option Side) (t u u' : Tables) (x x' : 
       inside = a.inside;
       few = a.few;
       grows = grows-then (model_of t) (model_of u) (model_of u') k.grows a.grows;
+      numbers = numbered-turn (model_of t) (model_of u) (model_of u') x.next here.1.next x'.next (walk-onward F own (get_or ts i no_expr) (extractor_of (view_in u) x)).later (sym (ap (λ (g : Routing.Extractor). g.next) a.extractor)) k.numbers a.numbers;
       spent = subst (λ s. Within (model_of t).used s (model_of u').used) (sym (ap list_space trees-are ∙ listed-push done here.0)) (within-then _ _ _ _ _ k.spent a.spent);
       begins = tables-then t u u' k.begins begins;
       unchanged = λ h. let q = unchanged h in numbers ∙ ap₂ (λ l n. l ++ n ∷ []) (k.unchanged q.0) q.1 ∙ sym (ap numbers_of (take_more given i d few-given) ∙ map_push (λ e. e.0) (take i given) (get_or given i d));
@@ -132,7 +139,7 @@ module _ (t u u' : Tables) (x : Extractor) (whole : List Expr × Routing.Extract
   abbrev us : List Expr
   us = exprs_in (view_in u).trees (numbers_of made)
 
-  call-made : (r : Result ExprId Fault) → BuiltBy u (space 1 0 (length us) 0 0) (call n (arguments us)) r u' → Answered t (call n (arguments us), extractor_of (view_in u) x) r u' x
+  call-made : (r : Result ExprId Fault) → BuiltBy u (space 1 0 (length us) 0 0) 0 (call n (arguments us)) r u' → Answered t (call n (arguments us), extractor_of (view_in u) x) r u' x
   call-made (Ok d) b =
       let q = extractor-stays u u' b.grows x k.inside in
       record {
@@ -142,12 +149,13 @@ module _ (t u u' : Tables) (x : Extractor) (whole : List Expr × Routing.Extract
         inside = q.1;
         few = omega (arith, k.few, longer u u' b.grows);
         grows = grows-then (model_of t) (model_of u) (model_of u') k.grows b.grows;
+        numbers = numbered-built (model_of t) (model_of u) (model_of u') x.next k.numbers b.numbers;
         spent = within_more _ _ _ _ (within-then _ _ _ _ _ k.spent b.spent) (call-space n us);
       }
   call-made (Err d) b = inl (b.0, no-room (model_of t).used (list_space us) (model_of u).used (space 1 0 (length us) 0 0) (tree_space (call n (arguments us))) k.spent (call-space n us) b.1)
 
-  pub call-step : (r : Result ExprId Fault) → BuiltBy u (space 1 0 (length made) 0 0) (call n (arguments us)) r u' → Answered t (call n (arguments whole.0), whole.1) r u' x
+  pub call-step : (r : Result ExprId Fault) → BuiltBy u (space 1 0 (length made) 0 0) 0 (call n (arguments us)) r u' → Answered t (call n (arguments whole.0), whole.1) r u' x
   call-step r b =
       let e : (us, extractor_of (view_in u) x) ≡ whole = ap (λ l. (l, extractor_of (view_in u) x)) (sym (append-nil us)) ∙ sym k.whole_is in
       let long : length us ≡ length made = length-map (numbers_of made) (expr_in (view_in u).trees) ∙ length-map made (λ d. d.0) in
-      subst (λ (w : List Expr × Routing.Extractor). Answered t (call n (arguments w.0), w.1) r u' x) e (call-made r (subst (λ j. BuiltBy u (space 1 0 j 0 0) (call n (arguments us)) r u') (sym long) b))
+      subst (λ (w : List Expr × Routing.Extractor). Answered t (call n (arguments w.0), w.1) r u' x) e (call-made r (subst (λ j. BuiltBy u (space 1 0 j 0 0) 0 (call n (arguments us)) r u') (sym long) b))

@@ -114,5 +114,5 @@ module _ (t : Tables) (is : Inputs) (e n : ℕ) (run : Run) (given : List ExprId
       pub made-same : same ≡ true → numbers_of made ≡ numbers_of given
       made-same q = k.unchanged q ∙ ap numbers_of (take_all i given le)
 
-      pub finished : (u' : Tables) (r : Result ExprId Fault) → BuiltBy u (space 1 0 (length made) 0 0) (call n (arguments done)) r u' → Answered t walked r u' y
+      pub finished : (u' : Tables) (r : Result ExprId Fault) → BuiltBy u (space 1 0 (length made) 0 0) 0 (call n (arguments done)) r u' → Answered t walked r u' y
       finished u' r b = subst (λ (w : Expr × Routing.Extractor). Answered t w r u' y) (sym whole-is) (call-step t u u' y whole given made i same n at-end r b)

@@ -47,7 +47,7 @@ own-of-expr (reference f) = omega arith
 own-of-expr (alias e f) = omega (arith, highest-append (field_names f) (expr_names e))
 own-of-expr (call n es) = omega (arith, highest-none)
 
-no-expr-below : (m : ℕ) → highest 0 (expr_names no_expr) ≤ m
+pub no-expr-below : (m : ℕ) → highest 0 (expr_names no_expr) ≤ m
 unfolding expr_names literal_names
 no-expr-below m = none-above m
 

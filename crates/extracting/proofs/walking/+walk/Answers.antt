@@ -21,6 +21,7 @@ use Rattle.extracting.specs.Owners.{owner_by}
 use Rattle.extracting.specs.Walking.{Answered, BuiltBy, walk_in}
 use Rattle.extracting.proofs.Growing.{grows-at-once, longer, tree-stays}
 use Rattle.extracting.proofs.Cases.{at-alias, at-constant, at-prefixed, at-reference, at-taken, field-stays, inner-lower, inputs-stay, inside-here, kept, name-stored, tree-here}
+use Rattle.extracting.proofs.Numbers.{numbered-here}
 use Rattle.extracting.proofs.Rewritten.{walk-small}
 use Rattle.extracting.proofs.Spaces.{within-same}
 use Rattle.extracting.proofs.Steps.{alias-refused, alias-step}
@@ -55,6 +56,7 @@ returns-in-Reference-clause-answer n c =
       inside = subst (λ m. Inside (view_of m) y) c.terms-in-Reference.ensures c.noted.ensures.inside;
       few = omega (arith, c.requires.few, ap length c.noted.ensures.entries);
       grows = grows-at-once (model_of t);
+      numbers = numbered-here (model_of t) (walk_in t c.args.inputs (expr_in (view_in t).trees c.args.e.0) (extractor_of (view_in t) x)).1.next;
       spent = within-same _ _;
     }
 
@@ -149,7 +151,7 @@ returns-in_ok-made-in-Alias-clause-answer n c =
     let a = c.in_ok-made-in-Alias.ensures.answer in
     let w = walk_in t c.args.inputs (expr_in (view_in t).trees i.0) (extractor_of (view_in t) x) in
     let k = (field-stays t u a.grows f (name-stored t c.args.e.0 i f inside)).0 in
-    let b = subst (λ z. BuiltBy u (space 1 0 0 0 0) z c.realias.result c.realias.new.tables) (ap₂ alias a.tree k) c.realias.ensures.answer in
+    let b = subst (λ z. BuiltBy u (space 1 0 0 0 0) 0 z c.realias.result c.realias.new.tables) (ap₂ alias a.tree k) c.realias.ensures.answer in
     subst (λ z. Answered t z c.realias.result c.realias.new.tables c.walk.new.extractor) (sym h)
     (alias-step t u c.realias.new.tables c.walk.new.extractor w c.in_ok-made-in-Alias.made.0 a (stored_field (view_in t).bytes f) c.realias.result b)
 
@@ -324,4 +326,4 @@ returns-after-loop-argument-clause-answer n c =
     let y = c.loop-argument.extractor in
     let k = c.loop-argument.invariant in
     finished t c.args.inputs e f r given x tree inside given-is c.requires.present c.in_default.ensures u y c.loop-argument.made i c.loop-argument.same k c.loop-argument-test.false c.recall.new.tables c.recall.result
-    (subst (λ (l : List ExprId). BuiltBy u (space 1 0 (length l) 0 0) (call f (arguments (exprs_in (view_in u).trees (numbers_of l)))) c.recall.result c.recall.new.tables) c.as_slice-in-Call.ensures c.recall.ensures.answer)
+    (subst (λ (l : List ExprId). BuiltBy u (space 1 0 (length l) 0 0) 0 (call f (arguments (exprs_in (view_in u).trees (numbers_of l)))) c.recall.result c.recall.new.tables) c.as_slice-in-Call.ensures c.recall.ensures.answer)

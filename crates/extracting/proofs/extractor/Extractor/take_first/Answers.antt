@@ -1,13 +1,14 @@
-use Rattle.std.proofs.Common.{◌≡◌, ◌≤◌, false, not, ◌||◌, length, None, Err, inl, inr, refl, sym, ap, ap₂, ◌∙◌, subst, arith, rules}
+use Rattle.std.proofs.Common.{◌≡◌, suc, ◌+◌, ◌≤◌, false, not, ◌||◌, length, None, Err, inl, inr, refl, sym, ap, ap₂, ◌∙◌, subst, arith, rules}
 use Rattle.plan.specs.Model.{expr_in}
 use Rattle.plan.specs.Terms.{references_of}
 use Rattle.rewriting.specs.Routing.{add_extracted, needs}
 use Rattle.routing.specs.Sides.{side_of}
-use Rattle.tables.specs.Holding.{view_in}
+use Rattle.tables.specs.Holding.{model_of, view_in}
 use Rattle.terms.specs.Views.{tree_of, view_of}
 use Rattle.extracting.specs.Extractors.{Inside, extractor_of, needs_of}
 use Rattle.extracting.specs.Walking.{Answered}
 use Rattle.extracting.proofs.Growing.{extractor-stays, tree-stays}
+use Rattle.extracting.proofs.Numbers.{numbered-more}
 use Rattle.extracting.proofs.extractor.Extractor.take_first.Goals as goal
 
 pub returns-then-not-is_countable-clause-answer : goal.returns-then-not-is_countable-clause-answer
@@ -57,5 +58,6 @@ returns-clause-answer c =
       inside = subst (λ m. Inside (view_of m) y) c.terms.ensures c.enter.ensures.inside;
       few = omega (arith, c.requires.few, c.enter.ensures.entries, c.in_ok-column.ensures.last, b.present);
       grows = b.grows;
+      numbers = numbered-more (model_of t) (model_of u) (x.next + 1) (suc x.next) (omega arith) b.numbers;
       spent = b.spent;
     }
