@@ -11,3 +11,4 @@ mod Columned
 mod Columning
 mod Lists
 mod Numbers
+mod Moving

@@ -24,33 +24,47 @@ unfolding needs
 needs-longer s [] ns = omega arith
 needs-longer s (f ∷ fs) ns = let a = need-longer s f ns in let b = needs-longer s fs (need s f ns) in omega arith
 
--- what goes on from g to h: no needed column is lost, and no number; and a number past the bound stays one
+-- what goes on from g to h: no needed column is lost, and no number; something that was taken out stays so, and so does a number past the bound
 pub record Onward (g h : Extractor) : Type 0 where
   pub longer : length g.needed ≤ length h.needed
   pub later : g.next ≤ h.next
+  pub new : g.new ≡ true → h.new ≡ true
   pub full : g.full ≡ true → h.full ≡ true
 
 at-once : (g : Extractor) → Onward g g
-at-once g = record { longer = omega arith; later = omega arith; full = λ h. h }
+at-once g = record { longer = omega arith; later = omega arith; new = λ h. h; full = λ h. h }
 
 onward-then : (a b c : Extractor) → Onward a b → Onward b c → Onward a c
-onward-then a b c p q = record { longer = omega (arith, p.longer, q.longer); later = omega (arith, p.later, q.later); full = λ h. q.full (p.full h) }
+onward-then a b c p q = record { longer = omega (arith, p.longer, q.longer); later = omega (arith, p.later, q.later); new = λ h. q.new (p.new h); full = λ h. q.full (p.full h) }
 
 noted-onward : (o : Option Side) (r : Field) (g : Extractor) → Onward g (noted o r g)
 unfolding noted
 noted-onward None r g = at-once g
-noted-onward (Some s) r g = record { longer = need-longer s r g.needed; later = omega arith; full = λ h. h }
+noted-onward (Some s) r g = record { longer = need-longer s r g.needed; later = omega arith; new = λ h. h; full = λ h. h }
 
 added-onward : (s : Side) (e : Expr) (g : Extractor) (x : Option Name) → Onward g (add_extracted s e g x).1
 unfolding add_extracted
-added-onward s e g (Some x) = record { longer = omega arith; later = omega arith; full = λ h. h }
-added-onward s e g None = record { longer = needs-longer s (references_of e) g.needed; later = omega arith; full = λ h. ap (λ b. b || not (countable g.next)) h }
+added-onward s e g (Some x) = record { longer = omega arith; later = omega arith; new = λ h. refl; full = λ h. h }
+added-onward s e g None = record { longer = needs-longer s (references_of e) g.needed; later = omega arith; new = λ h. refl; full = λ h. ap (λ b. b || not (countable g.next)) h }
 
 taken-onward : (b : Bool) (o : Option Side) (e : Expr) (g : Extractor) (w : Expr × Extractor) → Onward g w.1 → Onward g (taken_if b o e g w).1
 unfolding taken_if
 taken-onward false o e g w h = h
 taken-onward true None e g w h = h
 taken-onward true (Some s) e g w h = added-onward s e g (entered e g.entries)
+
+-- where nothing is taken out in the end, nothing was before
+pub not-before : (g h : Extractor) → Onward g h → h.new ≡ false → g.new ≡ false
+not-before g h o e = go g.new o.new
+  where
+    go : (b : Bool) → (b ≡ true → h.new ≡ true) → b ≡ false
+    go true f = let p = f refl in cc
+    go false f = refl
+
+pub added-new : (s : Side) (e : Expr) (g : Extractor) (x : Option Name) → (add_extracted s e g x).1.new ≡ true
+unfolding add_extracted
+added-new s e g (Some x) = refl
+added-new s e g None = refl
 
 -- sizes and totals
 added-small : (s : Side) (e d : Expr) (g : Extractor) (x : Option Name) → 1 ≤ size_of d → size_of (add_extracted s e g x).0 ≤ size_of d

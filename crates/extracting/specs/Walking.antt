@@ -7,7 +7,8 @@
 --     walk_in t is e g      what the walk through e comes to, where is are the inputs
 --     Walked t w r t' x'      w is what the definition says: r stands for the expression, x' for the extractor, no more was used than the expression's places,
 --                             and no number came that the walk did not take
---     Answered t w r t' x'      it is so, or the expression does not fit, or there was no number
+--     Stopped t o g f      something moves and the places o do not fit, or there was no number
+--     Answered t w r t' x'      w is walked, or stopped for the expression's places
 --     walks_in t is es g, WalkedAll t w rs t' x', AnsweredAll t w r rs t' x'      the same of a list of expressions
 use Rattle.std.specs.Prelude.{◌≡◌, ℕ, ◌<◌, ◌≤◌, true, false, ◌⊎◌, List, Ok, Err, Result, length}
 use Rattle.lexicon.specs.Begun.{Begins}
@@ -71,9 +72,12 @@ pub record Walked (t : Tables) (w : Expr × Routing.Extractor) (r : ℕ) (t' : T
   pub numbers : Numbered (model_of t) w.1.next (model_of t')
   pub spent : Within (model_of t).used (tree_space w.0) (model_of t').used
 
+abbrev pub Stopped : Tables → Space → Routing.Extractor → Fault → Type 0
+Stopped t o g f = (NoRoom t o f × (g.new ≡ true)) ⊎ NoNumber g f
+
 abbrev pub Answered : Tables → Expr × Routing.Extractor → Result ExprId Fault → Tables → Extractor → Type 0
 Answered t w (Ok r) t' x' = Walked t w r.0 t' x'
-Answered t w (Err f) t' x' = NoRoom t (tree_space w.0) f ⊎ NoNumber w.1 f
+Answered t w (Err f) t' x' = Stopped t (tree_space w.0) w.1 f
 
 abbrev pub walks_in : Tables → Inputs → List Expr → Routing.Extractor → List Expr × Routing.Extractor
 walks_in t is es g = routing_extract_all (view_in t).functions (owner_by (view_in t).functions (nodes_of t) is) es g
@@ -90,4 +94,4 @@ pub record WalkedAll (t : Tables) (w : List Expr × Routing.Extractor) (rs : Lis
 
 abbrev pub AnsweredAll : Tables → List Expr × Routing.Extractor → Result (Unit {0}) Fault → List ExprId → Tables → Extractor → Type 0
 AnsweredAll t w (Ok v) rs t' x' = WalkedAll t w rs t' x'
-AnsweredAll t w (Err f) rs t' x' = NoRoom t (list_space w.0) f ⊎ NoNumber w.1 f
+AnsweredAll t w (Err f) rs t' x' = Stopped t (list_space w.0) w.1 f

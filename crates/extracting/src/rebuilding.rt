@@ -9,7 +9,7 @@ ghost use Rattle.plan.specs.Terms.Expr.{alias as alias_tree, call as call_tree, 
 ghost use Rattle.plan.specs.Terms.{arguments, size_of, sizes_of};
 ghost use Rattle.rewriting.specs.Generated.{countable, generated};
 ghost use Rattle.rewriting.specs.Outlay.{tree_space};
-ghost use Rattle.std.specs.Prelude.{◌≡◌, ◌+◌, ◌<◌, ◌≤◌, true, false, length, IfOk};
+ghost use Rattle.std.specs.Prelude.{◌≡◌, ◌+◌, ◌<◌, ◌≤◌, true, false, length, IfOk, Ok};
 ghost use Rattle.tables.specs.Begun.{TablesBegin};
 ghost use Rattle.tables.specs.Holding.{view_in};
 ghost use Rattle.entries.specs.Spans.{stored_field, stored_in};
@@ -44,6 +44,7 @@ pub(crate) fn realias(
     requires tree { expr_in (view_in tables.old).trees e.0 ≡ alias_tree (expr_in (view_in tables.old).trees inner.0) (stored_field (view_in tables.old).bytes field) }
     requires small { size_of (expr_in (view_in tables.old).trees made.0) ≤ size_of (expr_in (view_in tables.old).trees inner.0) }
     ensures answer { BuiltBy tables.old (space 1 0 0 0 0) 0 (alias_tree (expr_in (view_in tables.old).trees made.0) (stored_field (view_in tables.old).bytes field)) result tables.new }
+    ensures kept { made.0 ≡ inner.0 → result ≡ Ok e }
     ensures begins { TablesBegin tables.old tables.new }
 {
     if made.0 == inner.0 {
@@ -69,6 +70,7 @@ pub(crate) fn recall(
     requires totals { any (is_total (view_in tables.old).functions) (exprs_in (view_in tables.old).trees (numbers_of made.now)) ≡ false }
     requires same { same ≡ true → numbers_of made.now ≡ numbers_of given.now }
     ensures answer { BuiltBy tables.old (space 1 0 (length made.now) 0 0) 0 (call_tree function (arguments (exprs_in (view_in tables.old).trees (numbers_of made.now)))) result tables.new }
+    ensures kept { same ≡ true → result ≡ Ok e }
     ensures begins { TablesBegin tables.old tables.new }
 {
     if same {

@@ -22,7 +22,7 @@ returns-in_err-column-clause-answer c =
     let v = view_in t in
     let w = add_extracted (side_of c.args.side) (expr_in v.trees c.args.e.0) (extractor_of v c.args.self.now) None in
     let e : c.from_residual.result ≡ Err c.in_err-column.field-0.0 = search rules in
-    subst (λ r. Answered t w r c.alias_column.new.tables c.args.self.now) (sym e) (inl c.in_err-column.ensures.answer)
+    subst (λ r. Answered t w r c.alias_column.new.tables c.args.self.now) (sym e) (inl (c.in_err-column.ensures.answer, refl))
 
 pub enter-requires-clause-inside : goal.enter-requires-clause-inside
 enter-requires-clause-inside c =
