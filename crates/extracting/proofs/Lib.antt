@@ -1,7 +1,7 @@
 mod Needs
 mod Spaces
-mod Rewritten
-mod Growing
+pub mod Rewritten
+pub mod Growing
 mod Entered
 mod Built
 mod Steps
@@ -10,5 +10,6 @@ mod Turns
 mod Columned
 mod Columning
 mod Lists
-mod Numbers
+pub mod Numbers
 mod Moving
+pub mod Keys

@@ -10,11 +10,13 @@
 --     Stopped t o g f      something moves and the places o do not fit, or there was no number
 --     Answered t w r t' x'      w is walked, or stopped for the expression's places
 --     walks_in t is es g, WalkedAll t w rs t' x', AnsweredAll t w r rs t' x'      the same of a list of expressions
-use Rattle.std.specs.Prelude.{◌≡◌, ℕ, ◌<◌, ◌≤◌, true, false, ◌⊎◌, List, Ok, Err, Result, length}
+--     with_by ks es      the keys ks, each of its expression of es instead, in its own direction
+use Rattle.std.specs.Prelude.{◌≡◌, ℕ, ◌<◌, ◌≤◌, true, false, ◌⊎◌, List, [], ◌∷◌, Ok, Err, Result, length}
 use Rattle.lexicon.specs.Begun.{Begins}
 use Rattle.plan.specs.Calls.{all_below}
 use Rattle.plan.specs.Faults.{fault, refusal}
 use Rattle.plan.specs.Model.{Model, Space, Within, expr_in, exprs_in, fits}
+use Rattle.plan.specs.Plans.{Key}
 use Rattle.plan.specs.Terms.{Expr}
 use Rattle.plan.specs.declared.fault.Fault.{Fault}
 use Rattle.plan.specs.declared.fault.Question.TheVariants.{Limited, Space as SpaceQuestion}
@@ -95,3 +97,8 @@ pub record WalkedAll (t : Tables) (w : List Expr × Routing.Extractor) (rs : Lis
 abbrev pub AnsweredAll : Tables → List Expr × Routing.Extractor → Result (Unit {0}) Fault → List ExprId → Tables → Extractor → Type 0
 AnsweredAll t w (Ok v) rs t' x' = WalkedAll t w rs t' x'
 AnsweredAll t w (Err f) rs t' x' = Stopped t (list_space w.0) w.1 f
+
+abbrev pub with_by : List Key → List Expr → List Key
+with_by [] es = []
+with_by (k ∷ ks) [] = []
+with_by (k ∷ ks) (e ∷ es) = record { by = e; direction = k.direction } ∷ with_by ks es
