@@ -1,5 +1,5 @@
 mod Digits
-mod Highest
+pub mod Highest
 pub mod Places
 mod Capped
 mod Bounded
