@@ -153,7 +153,7 @@ module _ (t u : Tables) (n : NewNode) (stage : Stage) (level : ℕ) (kind : Buil
   unfolding charged
   made-step (Ok r) a = λ v k s.
       let h = made-anew t n p (inputs_for n) (no-table t n kind) refl refl (Ok r) (model_of u) a in
-      let yes = first-yes (node_asked F p) _ h.0 in (
+      let yes = first-yes (node_asked F p) ((SpaceQuestion, fits (model_of t).used (own_space F p)) ∷ []) h.0 in (
         p,
         charged (own_space F p) k,
         made-built F stage level p k yes,
