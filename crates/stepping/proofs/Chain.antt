@@ -1,14 +1,23 @@
 -- One step after another.
-use Rattle.std.proofs.Common.{◌≡◌, ℕ, ◌+◌, ◌-◌, ◌<◌, ◌≤◌, Bool, true, false, ltb, not, T, ◌⊎◌, List, [], ◌∷◌, ◌++◌, length, get_or, Ok, Err, Result, inl, inr, sym, refl, ap, ◌∙◌, subst, append_assoc, length-append, get_or-append-add, arith, ltb→lt, nltb→le}
+use Rattle.std.proofs.Common.{◌≡◌, ℕ, ◌+◌, ◌-◌, ◌<◌, ◌≤◌, Bool, true, false, ltb, not, T, ◌⊎◌, List, [], ◌∷◌, ◌++◌, length, get_or, Ok, Err, Some, None, Option, Result, inl, inr, sym, refl, ap, ◌∙◌, subst, append-nil, append_assoc, not-suc-le-zero, length-append, get_or-append-add, arith, ltb→lt, nltb→le}
 use lib.ListN.{get_or-append}
 use Rattle.lexicon.proofs.Begun.{begins-then}
-use Rattle.plan.specs.Model.{Model, Node, Space, count_of, fits, no_node, plus, tree_at}
+use Rattle.plan.specs.Faults.{first_no}
+use Rattle.plan.specs.Functions.{Functions}
+use Rattle.plan.specs.Model.{Model, Node, Space, Within, count_of, fits, no_node, plus, tree_at}
 use Rattle.plan.specs.Plans.{Plan}
+use Rattle.plan.specs.Questions.{node_asked}
+use Rattle.plan.specs.Swapping.{own_space}
+use Rattle.plan.specs.declared.fault.Question.{Question}
+use Rattle.plan.specs.declared.fault.Question.TheVariants.{Space as SpaceQuestion}
+use Rattle.plan.specs.declared.fault.Stage.{Stage}
+use Rattle.rows.specs.Standing.{Good}
 use Rattle.plan.specs.declared.fault.Fault.{Fault}
-use Rattle.extracting.proofs.Spaces.{AtMost, at-most-nothing, at-most-then, no-room, within-same}
+use Rattle.extracting.proofs.Spaces.{AtMost, at-most-nothing, at-most-then, no-room, within-same, within-then}
+use Rattle.extracting.specs.Walking.{Grows, Numbered}
 use Rattle.rewriting.specs.Book.{spent_by}
-use Rattle.rewriting.specs.Extracting.{Outcome, and_then, built, no_change, refused}
-use Rattle.rewriting.specs.Outlay.{Tally, nothing}
+use Rattle.rewriting.specs.Extracting.{Outcome, and_then, built, made, made_if, no_change, refused}
+use Rattle.rewriting.specs.Outlay.{Tally, charged, nothing}
 use Rattle.entries.specs.declared.node.PlanId.{PlanId}
 use Rattle.stepping.specs.Steps.{AllGood, Extends, NoSpace, Start, Steps, Stood}
 
@@ -66,14 +75,19 @@ module _ (m m1 m2 : Model) (low low2 : ℕ) (o : Tally → Outcome) (f : Plan �
   then-ok q (Ok r) a b = λ u n s.
       let g = a u n s in
       let h = b u g.1 (then-start m m1 low low2 u n g.1 g.0 q.0 s le g.3 g.4) in
-      let is : and_then (o n) f ≡ f (tree_at m1 q.0) g.1 = ap (λ z. and_then z f) g.2 ∙ ap (λ p. f p g.1) (sym g.4.tree) in
-      (h.0, h.1, is ∙ h.2, omega (arith, g.3, h.3), record {
-        present = h.4.present;
-        tree = h.4.tree;
-        extends = extends-then m m1 m2 g.4.extends h.4.extends;
-        spent = h.4.spent;
-        numbers = h.4.numbers;
-      })
+      let is : and_then (o n) f ≡ f (tree_at m1 q.0) g.1 = ap (λ z. and_then z f) g.2 ∙ ap (λ p. f p g.1) (sym g.4.tree) in (
+        h.0,
+        h.1,
+        is ∙ h.2,
+        omega (arith, g.3, h.3),
+        record {
+          present = h.4.present;
+          tree = h.4.tree;
+          extends = extends-then m m1 m2 g.4.extends h.4.extends;
+          spent = h.4.spent;
+          numbers = h.4.numbers;
+        },
+      )
   then-ok q (Err e) a b = λ u n s.
       let g = a u n s in
       let h = b u g.1 (then-start m m1 low low2 u n g.1 g.0 q.0 s le g.3 g.4) in
@@ -88,3 +102,51 @@ module _ (m m1 m2 : Model) (low low2 : ℕ) (o : Tally → Outcome) (f : Plan �
       go : (u : Space) (n : Tally) → ((k : Tally) × (o n ≡ refused e k)) ⊎ NoSpace u (o n) e → ((k : Tally) × (and_then (o n) f ≡ refused e k)) ⊎ NoSpace u (and_then (o n) f) e
       go u n (inl x) = inl (x.0, ap (λ z. and_then z f) x.1)
       go u n (inr y) = inr (y.0, fits-no-more u (spent_by (o n)) (spent_by (and_then (o n) f)) (spends-then (o n) f h) y.1)
+
+-- expressions are made before a step, and their places are spent
+pub grown-extends : (m m1 : Model) → Grows m m1 → Extends m m1
+grown-extends m m1 g = record {
+  functions = g.functions;
+  exprs = g.exprs;
+  text = g.text;
+  inputs = record { more = []; is = g.inputs ∙ sym (append-nil m.inputs) };
+  nodes = [];
+  plans = g.plans ∙ sym (append-nil m.plans);
+  origins = λ k lt. absurd (not-suc-le-zero lt);
+  good = λ x. λ i lt. rw g.functions (subst (λ (l : List Node). Good m.functions (get_or l i no_node).tree) (sym g.plans) (x i (subst (λ (l : List Node). i < length l) g.plans lt)));
+}
+
+module _ (m m1 m2 : Model) (low low2 : ℕ) (x : Space) (o : Tally → Outcome) (le : low2 ≤ low) where
+  -- what was charged before a step, whichever way
+  pub charged-then : (r : Result PlanId Fault) → Grows m m1 → Within m.used x m1.used → Numbered m low m1 → Steps m1 low2 o r m2 → Steps m low (λ n. o (charged x n)) r m2
+  unfolding charged
+  charged-then (Ok r) g w k a = λ u n s.
+      let h = a u (charged x n) (record { spent = within-then u n.spent m.used x m1.used s.spent w; least = omega (arith, s.least, le); numbers = k n.next s.numbers s.least }) in (
+        h.0,
+        h.1,
+        h.2,
+        h.3,
+        record {
+          present = h.4.present;
+          tree = h.4.tree;
+          extends = extends-then m m1 m2 (grown-extends m m1 g) h.4.extends;
+          spent = h.4.spent;
+          numbers = h.4.numbers;
+        },
+      )
+  charged-then (Err e) g w k a = λ u n s. a u (charged x n) (record { spent = within-then u n.spent m.used x m1.used s.spent w; least = omega (arith, s.least, le); numbers = k n.next s.numbers s.least })
+
+-- where what is charged before a step does not fit
+pub charged-err : (m m2 : Model) (low : ℕ) (x : Space) (o : Tally → Outcome) (e : Fault) → e.question ≡ SpaceQuestion → fits m.used x ≡ false → ((k : Tally) → AtMost k.spent (spent_by (o k)))
+    → Steps m low (λ n. o (charged x n)) (Err e) m2
+unfolding charged
+charged-err m m2 low x o e q h spends = λ u n s.
+    inr (q, fits-no-more u (plus n.spent x) (spent_by (o (charged x n))) (spends (charged x n)) (no-room u n.spent m.used x (plus n.spent x) s.spent (at-most-same (plus n.spent x)) h))
+
+pub made-spends : (F : Functions) (stage : Stage) (level : ℕ) (p : Plan) (k : Tally) → AtMost k.spent (spent_by (made F stage level p k))
+unfolding made made_if charged
+made-spends F stage level p k = go (first_no (node_asked F p))
+  where
+    go : (o : Option Question) → AtMost k.spent (spent_by (made_if o stage level p (charged (own_space F p) k)))
+    go None = record { exprs = omega arith; plans = omega arith; entries = omega arith; fields = omega arith; bytes = omega arith }
+    go (Some q) = record { exprs = omega arith; plans = omega arith; entries = omega arith; fields = omega arith; bytes = omega arith }

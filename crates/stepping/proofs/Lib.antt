@@ -1,2 +1,2 @@
-mod Made
-mod Chain
+pub mod Made
+pub mod Chain

@@ -14,7 +14,7 @@ use tables::node::NewNode;
 use tables::tables::Tables;
 
 /// A refusal by the same question at another stage and level.
-fn at_stage(refused: Fault, stage: Stage, level: u8) -> Fault
+pub fn at_stage(refused: Fault, stage: Stage, level: u8) -> Fault
     ensures { result ≡ fault refused.question stage level }
 {
     Fault {
