@@ -30,7 +30,7 @@ use Rattle.names.specs.Spans.{word}
 use Rattle.numbering.proofs.Places.{columns-named, empty-name, no-expr-below, of-list, of-nodes, plan-step, plan_own}
 use Rattle.plan.specs.declared.code.JoinKind.{JoinKind}
 use Rattle.std.proofs.lemmas.List.Folds.{flat_map-map}
-use Rattle.tables.specs.Stored.{build_plan, build_plan_node, fields_in, node_trees, plan_nodes, plan_trees, run_exprs, run_numbers, small_number, small_numbers}
+use Rattle.tables.specs.Stored.{build_plan, build_plan_node, fields_in, node_trees, plan_nodes, plan_trees, run_exprs, run_numbers, well_formed}
 use Rattle.tables.specs.declared.node.PlanNode.{PlanNode}
 use Rattle.tables.specs.declared.node.PlanNode.TheVariants.{Aggregate, Filter, Join, Limit, Projection, Sort, SubqueryAlias, Table, Union}
 use Rattle.tables.specs.declared.node.PlanRecord.{PlanRecord}
@@ -205,33 +205,33 @@ module _ (F : Functions) where
       fields-step fs (Union l) own = union-fields-below m (plans_in ts (run_numbers v.entries l)) (picked-below m plan_fields no_plan (none-above m) ts (run_numbers v.entries l) h)
 
 -- what a plan's own node brings
-plan-own-low : (p : Plan) → small_numbers p ≡ true → highest 0 (plan_own p) ≤ most_number
-plan-own-low (table k q ns) h =
-    let a = and_parts (small_number q) (every small_number ns) h in
-    omega (arith, highest-more q ns, leb-true (number_of q) most_number a.0, columns-low ns a.1)
+plan-own-low : (F : Functions) (p : Plan) → well_formed F p ≡ true → highest 0 (plan_own p) ≤ most_number
+plan-own-low F (table k q ns) h =
+    let a = and_parts (good_name q) (every good_name ns) h in
+    omega (arith, highest-more q ns, good-low q a.0, columns-low ns a.1)
   where
-    columns-low : (ns : List Name) → every small_number ns ≡ true → highest 0 ns ≤ most_number
+    columns-low : (ns : List Name) → every good_name ns ≡ true → highest 0 ns ≤ most_number
     columns-low [] h = none-above most_number
     columns-low (n ∷ ns) h =
-        let a = and_parts (small_number n) (every small_number ns) h in
-        omega (arith, highest-more n ns, leb-true (number_of n) most_number a.0, columns-low ns a.1)
-plan-own-low (projection es i) h = none-above most_number
-plan-own-low (filter e i) h = none-above most_number
-plan-own-low (sort ks i) h = none-above most_number
-plan-own-low (limit s c i) h = none-above most_number
-plan-own-low (aggregate gs ts i) h = none-above most_number
-plan-own-low (join k cs l r) h = none-above most_number
-plan-own-low (subquery_alias n i) h = omega (arith, highest-one n, leb-true (number_of n) most_number h)
-plan-own-low (union i is) h = none-above most_number
+        let a = and_parts (good_name n) (every good_name ns) h in
+        omega (arith, highest-more n ns, good-low n a.0, columns-low ns a.1)
+plan-own-low F (projection es i) h = none-above most_number
+plan-own-low F (filter e i) h = none-above most_number
+plan-own-low F (sort ks i) h = none-above most_number
+plan-own-low F (limit s c i) h = none-above most_number
+plan-own-low F (aggregate gs ts i) h = none-above most_number
+plan-own-low F (join k cs l r) h = none-above most_number
+plan-own-low F (subquery_alias n i) h = omega (arith, highest-one n, good-low n h)
+plan-own-low F (union i is) h = none-above most_number
 
 no-plan-own : highest 0 (plan_own no_plan) ≤ most_number
 no-plan-own = omega (arith, highest-one [], empty-name)
 
-plans-own-low : (ns : List Node) → every small_numbers (node_trees ns) ≡ true → highest 0 (flat_map (λ n. plan_own n.tree) ns) ≤ most_number
-plans-own-low [] h = none-above most_number
-plans-own-low (n ∷ ns) h =
-    let p = and_parts (small_numbers n.tree) (every small_numbers (node_trees ns)) h in
-    both-below most_number (plan_own n.tree) (flat_map (λ x. plan_own x.tree) ns) (plan-own-low n.tree p.0) (plans-own-low ns p.1)
+plans-own-low : (F : Functions) (ns : List Node) → every (well_formed F) (node_trees ns) ≡ true → highest 0 (flat_map (λ n. plan_own n.tree) ns) ≤ most_number
+plans-own-low F [] h = none-above most_number
+plans-own-low F (n ∷ ns) h =
+    let p = and_parts (well_formed F n.tree) (every (well_formed F) (node_trees ns)) h in
+    both-below most_number (plan_own n.tree) (flat_map (λ x. plan_own x.tree) ns) (plan-own-low F n.tree p.0) (plans-own-low F ns p.1)
 
 -- over nodes as over their trees
 mapped-below : (names : Plan → List Name) (ns : List Node) → highest 0 (flat_map (λ n. names n.tree) ns) ≤ most_number → highest 0 (flat_map names (node_trees ns)) ≤ most_number
@@ -245,10 +245,10 @@ both-lists f g (t ∷ ts) h k =
     (both-lists f g ts (second-below most_number (f t) (flat_map f ts) h) (second-below most_number (g t) (flat_map g ts) k))
 
 -- the names of all fields, and of all trees
-module _ (v : View) (fields : List StoredField) (rs : List PlanRecord) (accepted : every (acceptable v.functions) v.trees ≡ true) (numbered : every small_numbers (plan_trees v fields rs) ≡ true)
+module _ (v : View) (fields : List StoredField) (rs : List PlanRecord) (accepted : every (acceptable v.functions) v.trees ≡ true) (formed : every (well_formed v.functions) (plan_trees v fields rs) ≡ true)
     (exprs : highest 0 (list_names v.trees) ≡ highest 0 (flat_map own_names v.trees)) where
   own : highest 0 (flat_map (λ n. plan_own n.tree) (plan_nodes v fields rs)) ≤ most_number
-  own = plans-own-low (plan_nodes v fields rs) numbered
+  own = plans-own-low v.functions (plan_nodes v fields rs) formed
 
   listed : highest 0 (flat_map expr_names v.trees) ≤ most_number
   listed = omega (arith, exprs, owns-low v.functions v.trees accepted, ap (highest 0) (of-list v.trees))

@@ -5,7 +5,7 @@ ghost use Rattle.std.specs.Prelude.{◌≡◌, true};
 ghost use Rattle.stepping.specs.Steps.{Buildable, Steps};
 ghost use Rattle.tables.specs.Begun.{TablesBegin};
 ghost use Rattle.tables.specs.Holding.{model_of, view_in};
-ghost use Rattle.tables.specs.Making.{bounded, present, tree_for, well_named};
+ghost use Rattle.tables.specs.Making.{bounded, present, tree_for, well_named, well_placed};
 
 use asking::making::make;
 use entries::node::PlanId;
@@ -34,6 +34,7 @@ pub fn make_at(
     requires present { present tables.old node ≡ true }
     requires bounded { bounded node ≡ true }
     requires named { well_named node ≡ true }
+    requires placed { well_placed tables.old node ≡ true }
     requires kind { Buildable tables.old node }
     ensures steps { Steps (model_of tables.old) 0 (made (view_in tables.old).functions stage level (tree_for tables.old node.entry)) result (model_of tables.new) }
     ensures begins { TablesBegin tables.old tables.new }
