@@ -3,7 +3,7 @@ ghost use Rattle.std.specs.Prelude.{◌≡◌, true};
 ghost use Rattle.tables.specs.Begun.{TablesBegin};
 ghost use Rattle.tables.specs.Holding.{model_of};
 ghost use Rattle.stored.specs.Making.{bounded, well_named};
-ghost use Rattle.tables.specs.Making.{NodeMade, present};
+ghost use Rattle.tables.specs.Making.{NodeMade, present, well_placed};
 
 use crate::asked::Asked;
 use crate::lawful::blank;
@@ -19,6 +19,7 @@ pub fn make(tables: &mut Tables, node: NewNode<'_>) -> Result<PlanId, Fault>
     requires present { present tables.old node ≡ true }
     requires bounded { bounded node ≡ true }
     requires named { well_named node ≡ true }
+    requires placed { well_placed tables.old node ≡ true }
     ensures made { NodeMade tables.old node.entry result (model_of tables.new) }
     ensures begins { TablesBegin tables.old tables.new }
 {

@@ -34,6 +34,7 @@ use Rattle.extracting.specs.Walking.{Grows, Walked, walk_in}
 use Rattle.extracting.specs.declared.extractor.Extractor.{Extractor}
 use Rattle.extracting.specs.declared.inputs.Inputs.{Inputs}
 use Rattle.extracting.proofs.Growing.{grows-at-once, owner-stays}
+use Rattle.extracting.proofs.Numbers.{numbered-here}
 use Rattle.extracting.proofs.Rewritten.{walk-alias, walk-call, walk-literal, walk-prefixed, walk-reference, walk-taken}
 use Rattle.extracting.proofs.Spaces.{within-same}
 
@@ -86,6 +87,7 @@ module _ (t : Tables) (is : Inputs) (e : ℕ) (x : Extractor) where
     inside = inside;
     few = few;
     grows = grows-at-once (model_of t);
+    numbers = numbered-here (model_of t) (walk_in t is here g).1.next;
     spent = within-same (model_of t).used _;
   }
 

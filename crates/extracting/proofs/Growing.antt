@@ -92,7 +92,7 @@ module _ (v w : View) (ts : List Expr) (bs : List ℕ) (trees : w.trees ≡ v.tr
   extractor-kept x h =
       let a = entries-kept x.entries h.entries in
       let b = needs-kept x.needed h.needed in
-      (ap₂ (λ ds ns. record { entries = ds; needed = ns; next = x.next; new = x.is_new; full = false }) a.0 b.0, record { entries = a.1; needed = b.1 })
+      (ap₂ (λ ds ns. record { entries = ds; needed = ns; next = x.next; new = x.is_new; full = false }) a.0 b.0, record { entries = a.1; needed = b.1; earlier = h.earlier })
 
 module _ (t u : Tables) (g : Grows (model_of t) (model_of u)) where
   pub longer : length (view_in t).trees ≤ length (view_in u).trees

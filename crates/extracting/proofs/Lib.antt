@@ -1,7 +1,7 @@
 mod Needs
-mod Spaces
-mod Rewritten
-mod Growing
+pub mod Spaces
+pub mod Rewritten
+pub mod Growing
 mod Entered
 mod Built
 mod Steps
@@ -10,3 +10,6 @@ mod Turns
 mod Columned
 mod Columning
 mod Lists
+pub mod Numbers
+mod Moving
+pub mod Keys

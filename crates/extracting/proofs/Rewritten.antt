@@ -1,4 +1,4 @@
--- What a walk makes of an expression: it is no larger, and a total only if it was one; the extractor never forgets.
+-- What a walk makes of an expression: it is no larger, and a total only if it was one; the extractor only goes on.
 use Rattle.std.proofs.Common.{◌≡◌, ℕ, ◌+◌, ◌<◌, ◌≤◌, Bool, true, false, cond, not, ◌&&◌, ◌||◌, List, [], ◌∷◌, ◌++◌, length, get_or, drop, Some, None, Option, refl, ap, ◌∙◌, arith}
 use Rattle.std.proofs.lemmas.List.{at_drop_all, at_drop_more, length_push}
 use Rattle.plan.specs.Functions.{Functions, is_marked, is_total, placement_of}
@@ -24,38 +24,47 @@ unfolding needs
 needs-longer s [] ns = omega arith
 needs-longer s (f ∷ fs) ns = let a = need-longer s f ns in let b = needs-longer s fs (need s f ns) in omega arith
 
-pub noted-longer : (o : Option Side) (r : Field) (g : Extractor) → length g.needed ≤ length (noted o r g).needed
+-- what goes on from g to h: no needed column is lost, and no number; something that was taken out stays so, and so does a number past the bound
+pub record Onward (g h : Extractor) : Type 0 where
+  pub longer : length g.needed ≤ length h.needed
+  pub later : g.next ≤ h.next
+  pub new : g.new ≡ true → h.new ≡ true
+  pub full : g.full ≡ true → h.full ≡ true
+
+at-once : (g : Extractor) → Onward g g
+at-once g = record { longer = omega arith; later = omega arith; new = λ h. h; full = λ h. h }
+
+onward-then : (a b c : Extractor) → Onward a b → Onward b c → Onward a c
+onward-then a b c p q = record { longer = omega (arith, p.longer, q.longer); later = omega (arith, p.later, q.later); new = λ h. q.new (p.new h); full = λ h. q.full (p.full h) }
+
+noted-onward : (o : Option Side) (r : Field) (g : Extractor) → Onward g (noted o r g)
 unfolding noted
-noted-longer None r g = omega arith
-noted-longer (Some s) r g = need-longer s r g.needed
+noted-onward None r g = at-once g
+noted-onward (Some s) r g = record { longer = need-longer s r g.needed; later = omega arith; new = λ h. h; full = λ h. h }
 
-pub added-longer : (s : Side) (e : Expr) (g : Extractor) (x : Option Name) → length g.needed ≤ length (add_extracted s e g x).1.needed
+added-onward : (s : Side) (e : Expr) (g : Extractor) (x : Option Name) → Onward g (add_extracted s e g x).1
 unfolding add_extracted
-added-longer s e g (Some x) = omega arith
-added-longer s e g None = needs-longer s (references_of e) g.needed
+added-onward s e g (Some x) = record { longer = omega arith; later = omega arith; new = λ h. refl; full = λ h. h }
+added-onward s e g None = record { longer = needs-longer s (references_of e) g.needed; later = omega arith; new = λ h. refl; full = λ h. ap (λ b. b || not (countable g.next)) h }
 
-taken-longer : (b : Bool) (o : Option Side) (e : Expr) (g : Extractor) (w : Expr × Extractor) → length g.needed ≤ length w.1.needed → length g.needed ≤ length (taken_if b o e g w).1.needed
+taken-onward : (b : Bool) (o : Option Side) (e : Expr) (g : Extractor) (w : Expr × Extractor) → Onward g w.1 → Onward g (taken_if b o e g w).1
 unfolding taken_if
-taken-longer false o e g w h = h
-taken-longer true None e g w h = h
-taken-longer true (Some s) e g w h = added-longer s e g (entered e g.entries)
+taken-onward false o e g w h = h
+taken-onward true None e g w h = h
+taken-onward true (Some s) e g w h = added-onward s e g (entered e g.entries)
 
--- a number past the bound stays one
-noted-full : (o : Option Side) (r : Field) (g : Extractor) → (noted o r g).full ≡ g.full
-unfolding noted
-noted-full None r g = refl
-noted-full (Some s) r g = refl
+-- where nothing is taken out in the end, nothing was before
+pub not-before : (g h : Extractor) → Onward g h → h.new ≡ false → g.new ≡ false
+not-before g h o e = go g.new o.new
+  where
+    go : (b : Bool) → (b ≡ true → h.new ≡ true) → b ≡ false
+    go true f = let p = f refl in cc
+    go false f = refl
 
-pub added-full : (s : Side) (e : Expr) (g : Extractor) (x : Option Name) → g.full ≡ true → (add_extracted s e g x).1.full ≡ true
+pub added-new : (s : Side) (e : Expr) (g : Extractor) (x : Option Name) → (add_extracted s e g x).1.new ≡ true
 unfolding add_extracted
-added-full s e g (Some x) h = h
-added-full s e g None h = ap (λ b. b || not (countable g.next)) h
-
-taken-full : (b : Bool) (o : Option Side) (e : Expr) (g : Extractor) (w : Expr × Extractor) → g.full ≡ true → w.1.full ≡ true → (taken_if b o e g w).1.full ≡ true
-unfolding taken_if
-taken-full false o e g w h k = k
-taken-full true None e g w h k = k
-taken-full true (Some s) e g w h k = added-full s e g (entered e g.entries) h
+added-new s e g (Some x) = refl
+added-new s e g None = refl
 
 -- sizes and totals
 added-small : (s : Side) (e d : Expr) (g : Extractor) (x : Option Name) → 1 ≤ size_of d → size_of (add_extracted s e g x).0 ≤ size_of d
@@ -84,36 +93,19 @@ module _ (F : Functions) (own : Expr → Option Side) where
   mutual
     unfolding routing_extract under_alias under_call
 
-    pub walk-longer : (e : Expr) (g : Extractor) → length g.needed ≤ length (routing_extract F own e g).1.needed
-    walk-longer (literal v) g = omega arith
-    walk-longer (reference r) g = noted-longer (own (reference r)) r g
-    walk-longer (alias e f) g = go (prefixed f.name) (walk-longer e g)
+    pub walk-onward : (e : Expr) (g : Extractor) → Onward g (routing_extract F own e g).1
+    walk-onward (literal v) g = at-once g
+    walk-onward (reference r) g = noted-onward (own (reference r)) r g
+    walk-onward (alias e f) g = go (prefixed f.name) (walk-onward e g)
       where
-        go : (b : Bool) → length g.needed ≤ length (routing_extract F own e g).1.needed → length g.needed ≤ length (cond b (alias e f, g) (under_alias f (routing_extract F own e g))).1.needed
-        go true h = omega arith
+        go : (b : Bool) → Onward g (routing_extract F own e g).1 → Onward g (cond b (alias e f, g) (under_alias f (routing_extract F own e g))).1
+        go true h = at-once g
         go false h = h
-    walk-longer (call n es) g = taken-longer (is_marked (placement_of F (call n es))) (own (call n es)) (call n es) g (under_call n (routing_extracts F own es g)) (walks-longer es g)
+    walk-onward (call n es) g = taken-onward (is_marked (placement_of F (call n es))) (own (call n es)) (call n es) g (under_call n (routing_extracts F own es g)) (walks-onward es g)
 
-    walks-longer : (es : Exprs) (g : Extractor) → length g.needed ≤ length (routing_extracts F own es g).1.needed
-    walks-longer none g = omega arith
-    walks-longer (more e es) g = let a = walk-longer e g in let b = walks-longer es (routing_extract F own e g).1 in omega arith
-
-  mutual
-    unfolding routing_extract under_alias under_call
-
-    pub walk-full : (e : Expr) (g : Extractor) → g.full ≡ true → (routing_extract F own e g).1.full ≡ true
-    walk-full (literal v) g h = h
-    walk-full (reference r) g h = noted-full (own (reference r)) r g ∙ h
-    walk-full (alias e f) g h = go (prefixed f.name) (walk-full e g h)
-      where
-        go : (b : Bool) → (routing_extract F own e g).1.full ≡ true → (cond b (alias e f, g) (under_alias f (routing_extract F own e g))).1.full ≡ true
-        go true k = h
-        go false k = k
-    walk-full (call n es) g h = taken-full (is_marked (placement_of F (call n es))) (own (call n es)) (call n es) g (under_call n (routing_extracts F own es g)) h (walks-full es g h)
-
-    walks-full : (es : Exprs) (g : Extractor) → g.full ≡ true → (routing_extracts F own es g).1.full ≡ true
-    walks-full none g h = h
-    walks-full (more e es) g h = walks-full es (routing_extract F own e g).1 (walk-full e g h)
+    walks-onward : (es : Exprs) (g : Extractor) → Onward g (routing_extracts F own es g).1
+    walks-onward none g = at-once g
+    walks-onward (more e es) g = let w = routing_extract F own e g in onward-then g w.1 (routing_extracts F own es w.1).1 (walk-onward e g) (walks-onward es w.1)
 
   mutual
     unfolding routing_extract under_alias under_call
@@ -151,15 +143,10 @@ module _ (F : Functions) (own : Expr → Option Side) where
       let w = routing_extract F own t g in
       ap (λ (v : Exprs × Extractor). (more w.0 v.0, v.1)) (as-arguments ts w.1)
 
-  pub all-longer : (ts : List Expr) (g : Extractor) → length g.needed ≤ length (routing_extract_all F own ts g).1.needed
+  pub all-onward : (ts : List Expr) (g : Extractor) → Onward g (routing_extract_all F own ts g).1
   unfolding routing_extract_all
-  all-longer [] g = omega arith
-  all-longer (t ∷ ts) g = let a = walk-longer t g in let b = all-longer ts (routing_extract F own t g).1 in omega arith
-
-  pub all-full : (ts : List Expr) (g : Extractor) → g.full ≡ true → (routing_extract_all F own ts g).1.full ≡ true
-  unfolding routing_extract_all
-  all-full [] g h = h
-  all-full (t ∷ ts) g h = all-full ts (routing_extract F own t g).1 (walk-full t g h)
+  all-onward [] g = at-once g
+  all-onward (t ∷ ts) g = let w = routing_extract F own t g in onward-then g w.1 (routing_extract_all F own ts w.1).1 (walk-onward t g) (all-onward ts w.1)
 
   pub all-small : (ts : List Expr) (g : Extractor) → sizes_of (arguments (routing_extract_all F own ts g).0) ≤ sizes_of (arguments ts)
   unfolding routing_extract_all

@@ -1,6 +1,6 @@
 -- The walk through the arguments of a call: one turn, and the end.
-use Rattle.std.proofs.Common.{◌≡◌, ℕ, ◌+◌, ◌<◌, ◌≤◌, Bool, true, false, ◌&&◌, cond, eqb, List, [], ◌∷◌, ◌++◌, length, get_or, drop, None, Option, Result, ◌⊎◌, sym, ap, ap₂, ◌∙◌, subst, arith}
-use Rattle.std.proofs.lemmas.Bool.{and_parts, eqb-true}
+use Rattle.std.proofs.Common.{◌≡◌, ℕ, ◌+◌, ◌<◌, ◌≤◌, Bool, true, false, ◌&&◌, cond, eqb, List, [], ◌∷◌, ◌++◌, length, get_or, drop, None, Ok, Option, Result, IfOk, sym, ap, ap₂, ◌∙◌, subst, arith}
+use Rattle.std.proofs.lemmas.Bool.{and_from, and_parts, eq-eqb, eqb-true}
 use Rattle.std.proofs.lemmas.List.{append-nil, take_all}
 use Rattle.plan.specs.Fields.{any}
 use Rattle.plan.specs.Functions.{Functions, is_marked, is_total, placement_of}
@@ -21,13 +21,14 @@ use Rattle.entries.specs.declared.node.ExprNode.TheVariants.{Call}
 use Rattle.entries.specs.declared.node.Run.{Run}
 use Rattle.extracting.specs.Extractors.{extractor_of}
 use Rattle.extracting.specs.Owners.{owner_by}
-use Rattle.extracting.specs.Walking.{Answered, BuiltBy, NoNumber, NoRoom, Walked, walk_in}
+use Rattle.extracting.specs.Walking.{Answered, BuiltBy, Stopped, Walked, walk_in}
 use Rattle.extracting.specs.declared.extractor.Extractor.{Extractor}
 use Rattle.extracting.specs.declared.inputs.Inputs.{Inputs}
 use Rattle.extracting.proofs.Cases.{all-lower, argument-is, argument-lower, as-many, at-call, call-is, no-totals, walk-same}
 use Rattle.extracting.proofs.Growing.{tree-stays}
+use Rattle.extracting.proofs.Moving.{given-back}
 use Rattle.extracting.proofs.Rewritten.{all-no-total, all-small, all_end}
-use Rattle.extracting.proofs.Steps.{Partly, below-more, call-refused, call-step, exprs-stay, needed-here, one-more}
+use Rattle.extracting.proofs.Steps.{Partly, below-more, call-refused, call-step, exprs-stay, needed-here, one-more, same-here}
 
 module _ (t : Tables) (is : Inputs) (e n : ℕ) (run : Run) (given : List ExprId) (x : Extractor) (h : expr_in (view_in t).trees e ≡ tree_for t.terms (Call n run)) (inside : inside_node (view_in t).bytes (view_in t).entries e (Call n run) ≡ true)
     (given-is : numbers_of given ≡ numbers_in (view_in t).entries run.first run.count) (present : e < length (view_in t).trees) where
@@ -77,16 +78,17 @@ module _ (t : Tables) (is : Inputs) (e n : ℕ) (run : Run) (given : List ExprId
           let a = needed-here F own t u u y y ts whole given made i same among k (omega (arith, q, ap (λ (w : Expr × Routing.Extractor). length w.1.needed) whole-is)) in
           omega (arith, a, ap (λ (w : Expr × Routing.Extractor). length w.1.needed) here-is)
 
-      pub refused : (f : Fault) → NoRoom u (tree_space step.0) f ⊎ NoNumber step.1 f → NoRoom t (tree_space walked.0) f ⊎ NoNumber walked.1 f
+      pub refused : (f : Fault) → Stopped u (tree_space step.0) step.1 f → Stopped t (tree_space walked.0) walked.1 f
       refused f a =
-          let b = subst (λ (w : Expr × Routing.Extractor). NoRoom u (tree_space w.0) f ⊎ NoNumber w.1 f) here-is a in
-          subst (λ (w : Expr × Routing.Extractor). NoRoom t (tree_space w.0) f ⊎ NoNumber w.1 f) (sym whole-is) (call-refused F own t u u y y ts whole given made i same among k n f b)
+          let b = subst (λ (w : Expr × Routing.Extractor). Stopped u (tree_space w.0) w.1 f) here-is a in
+          subst (λ (w : Expr × Routing.Extractor). Stopped t (tree_space w.0) w.1 f) (sym whole-is) (call-refused F own t u u y y ts whole given made i same among k n f b)
 
-      pub turn : (u' : Tables) (y' : Extractor) (part : ExprId) → Walked u step part.0 u' y' → (made' : List ExprId) → made' ≡ made ++ part ∷ [] → TablesBegin u u' → (same' : Bool) → same' ≡ (same && eqb part.0 number)
+      pub turn : (u' : Tables) (y' : Extractor) (part : ExprId) → Walked u step part.0 u' y' → (step.1.new ≡ false → part.0 ≡ number) → (made' : List ExprId) → made' ≡ made ++ part ∷ [] → TablesBegin u u' → (same' : Bool) → same' ≡ (same && eqb part.0 number)
           → Partly t u' y' whole (routing_extract_all F own (drop (i + 1) ts) (extractor_of (view_in u') y')) given made' (i + 1) same'
-      turn u' y' part a made' pushed begins same' is-same =
+      turn u' y' part a kept made' pushed begins same' is-same =
           one-more F own t u u' y y' ts whole given made i same among k part (subst (λ (w : Expr × Routing.Extractor). Walked u w part.0 u' y') here-is a) made' pushed begins same' d
-          (λ q. let p = and_parts same (eqb part.0 number) (sym is-same ∙ q) in (p.0, eqb-true part.0 number p.1)) lt
+          (λ q. let p = and_parts same (eqb part.0 number) (sym is-same ∙ q) in (p.0, eqb-true part.0 number p.1))
+          (λ q. is-same ∙ and_from same (eqb part.0 number) (same-here F own t u u y y ts whole given made i same among k q) (eq-eqb part.0 number (kept (ap (λ (w : Expr × Routing.Extractor). w.1.new) here-is ∙ q)))) lt
 
     -- all arguments are walked
     module _ (le : length given ≤ i) where
@@ -114,5 +116,11 @@ module _ (t : Tables) (is : Inputs) (e n : ℕ) (run : Run) (given : List ExprId
       pub made-same : same ≡ true → numbers_of made ≡ numbers_of given
       made-same q = k.unchanged q ∙ ap numbers_of (take_all i given le)
 
-      pub finished : (u' : Tables) (r : Result ExprId Fault) → BuiltBy u (space 1 0 (length made) 0 0) (call n (arguments done)) r u' → Answered t walked r u' y
-      finished u' r b = subst (λ (w : Expr × Routing.Extractor). Answered t w r u' y) (sym whole-is) (call-step t u u' y whole given made i same n at-end r b)
+      end-is : walked.1.new ≡ y.is_new
+      end-is = ap (λ (w : Expr × Routing.Extractor). w.1.new) whole-is ∙ ap (λ (w : List Expr × Routing.Extractor). w.1.new) at-end.whole_is
+
+      pub call-kept : (d : ExprId) (r : Result ExprId Fault) → (same ≡ true → r ≡ Ok d) → IfOk r (λ b. walked.1.new ≡ false → b.0 ≡ d.0)
+      call-kept d r kept = given-back r d walked.1.new (λ q. kept (k.still (sym end-is ∙ q)))
+
+      pub finished : (u' : Tables) (d : ExprId) (r : Result ExprId Fault) → (same ≡ true → r ≡ Ok d) → BuiltBy u (space 1 0 (length made) 0 0) 0 (call n (arguments done)) r u' → Answered t walked r u' y
+      finished u' d r kept b = subst (λ (w : Expr × Routing.Extractor). Answered t w r u' y) (sym whole-is) (call-step t u u' y whole given made i same n at-end d r kept b)

@@ -1,9 +1,9 @@
 -- What an extractor over the tables stands for; cited by src/extractor.
 --     entry_of v d, need_of v n      an expression that was taken out, and a column that is needed, as the definitions have them
 --     entries_of v x, needs_of v x, extractor_of v x      all of them; all of the extractor
---     Inside v x      its expressions stand in the tables under numbers that an alias may have, and its columns are inside the text
+--     Inside v x      its expressions stand in the tables, its aliases have numbers that an alias may have and that are below the next one, and its columns are inside the text
 --     needing s fs g, renewed g      an extractor that needs the columns fs too; one that has taken something out
-use Rattle.std.specs.Prelude.{◌≡◌, Bool, true, false, ◌&&◌, List, map, length, nat_lt}
+use Rattle.std.specs.Prelude.{◌≡◌, ℕ, Bool, true, false, ◌&&◌, List, map, length, nat_lt}
 use Rattle.plan.specs.Fields.{every}
 use Rattle.plan.specs.Model.{expr_in}
 use Rattle.plan.specs.Terms.{Field}
@@ -39,9 +39,13 @@ entry_in v d = nat_lt d.inner.0 (length v.trees) && countable d.alias
 abbrev pub need_in : View → Needed → Bool
 need_in v n = stored_in v.bytes n.field
 
+abbrev pub is_before : ℕ → Extracted → Bool
+is_before n d = nat_lt d.alias n
+
 pub record Inside (v : View) (x : Extractor) : Type 0 where
   pub entries : every (entry_in v) x.entries ≡ true
   pub needed : every (need_in v) x.needed ≡ true
+  pub earlier : every (is_before x.next) x.entries ≡ true
 
 abbrev pub needing : Side → List Field → Routing.Extractor → Routing.Extractor
 needing s fs g = record { entries = g.entries; needed = needs s fs g.needed; next = g.next; new = g.new; full = g.full }

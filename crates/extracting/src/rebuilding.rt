@@ -9,7 +9,7 @@ ghost use Rattle.plan.specs.Terms.Expr.{alias as alias_tree, call as call_tree, 
 ghost use Rattle.plan.specs.Terms.{arguments, size_of, sizes_of};
 ghost use Rattle.rewriting.specs.Generated.{countable, generated};
 ghost use Rattle.rewriting.specs.Outlay.{tree_space};
-ghost use Rattle.std.specs.Prelude.{◌≡◌, ◌<◌, ◌≤◌, true, false, length, IfOk};
+ghost use Rattle.std.specs.Prelude.{◌≡◌, ◌+◌, ◌<◌, ◌≤◌, true, false, length, IfOk, Ok};
 ghost use Rattle.tables.specs.Begun.{TablesBegin};
 ghost use Rattle.tables.specs.Holding.{view_in};
 ghost use Rattle.entries.specs.Spans.{stored_field, stored_in};
@@ -23,7 +23,7 @@ use tables::tables::Tables;
 /// A reference to the alias of a number.
 pub(crate) fn alias_column(tables: &mut Tables, alias: u32) -> Result<ExprId, Fault>
     requires { countable alias ≡ true }
-    ensures answer { BuiltBy tables.old (tree_space (reference_tree (unqualified_field (generated alias)))) (reference_tree (unqualified_field (generated alias))) result tables.new }
+    ensures answer { BuiltBy tables.old (tree_space (reference_tree (unqualified_field (generated alias)))) (alias + 1) (reference_tree (unqualified_field (generated alias))) result tables.new }
     ensures last { IfOk result (λ r. r.0 ≡ length (view_in tables.old).trees) }
     ensures begins { TablesBegin tables.old tables.new }
 {
@@ -43,7 +43,8 @@ pub(crate) fn realias(
     requires stored { stored_in (view_in tables.old).bytes field ≡ true }
     requires tree { expr_in (view_in tables.old).trees e.0 ≡ alias_tree (expr_in (view_in tables.old).trees inner.0) (stored_field (view_in tables.old).bytes field) }
     requires small { size_of (expr_in (view_in tables.old).trees made.0) ≤ size_of (expr_in (view_in tables.old).trees inner.0) }
-    ensures answer { BuiltBy tables.old (space 1 0 0 0 0) (alias_tree (expr_in (view_in tables.old).trees made.0) (stored_field (view_in tables.old).bytes field)) result tables.new }
+    ensures answer { BuiltBy tables.old (space 1 0 0 0 0) 0 (alias_tree (expr_in (view_in tables.old).trees made.0) (stored_field (view_in tables.old).bytes field)) result tables.new }
+    ensures kept { made.0 ≡ inner.0 → result ≡ Ok e }
     ensures begins { TablesBegin tables.old tables.new }
 {
     if made.0 == inner.0 {
@@ -68,7 +69,8 @@ pub(crate) fn recall(
     requires small { sizes_of (arguments (exprs_in (view_in tables.old).trees (numbers_of made.now))) ≤ sizes_of (arguments (exprs_in (view_in tables.old).trees (numbers_of given.now))) }
     requires totals { any (is_total (view_in tables.old).functions) (exprs_in (view_in tables.old).trees (numbers_of made.now)) ≡ false }
     requires same { same ≡ true → numbers_of made.now ≡ numbers_of given.now }
-    ensures answer { BuiltBy tables.old (space 1 0 (length made.now) 0 0) (call_tree function (arguments (exprs_in (view_in tables.old).trees (numbers_of made.now)))) result tables.new }
+    ensures answer { BuiltBy tables.old (space 1 0 (length made.now) 0 0) 0 (call_tree function (arguments (exprs_in (view_in tables.old).trees (numbers_of made.now)))) result tables.new }
+    ensures kept { same ≡ true → result ≡ Ok e }
     ensures begins { TablesBegin tables.old tables.new }
 {
     if same {

@@ -7,7 +7,7 @@ ghost use Rattle.plan.specs.Calls.{all_below};
 ghost use Rattle.plan.specs.Functions.{is_marked, placement_of};
 ghost use Rattle.plan.specs.Model.{expr_in, exprs_in};
 ghost use Rattle.routing.specs.Sides.{side_of};
-ghost use Rattle.std.specs.Prelude.{◌≡◌, ◌+◌, ◌<◌, ◌≤◌, true, ◌&&◌, [], None, cond, length, nat_eq, option_map, IfOk};
+ghost use Rattle.std.specs.Prelude.{◌≡◌, ◌+◌, ◌<◌, ◌≤◌, true, false, ◌&&◌, [], None, cond, length, nat_eq, option_map, IfOk};
 ghost use Rattle.tables.specs.Begun.{TablesBegin};
 ghost use Rattle.tables.specs.Holding.{nodes_of, plan_count, view_in};
 ghost use Rattle.terms.specs.Build.{numbers_in};
@@ -69,6 +69,7 @@ fn walk(
     requires few { length extractor.old.entries ≤ length (view_in tables.old).trees }
     requires needed { length (walk_in tables.old inputs (expr_in (view_in tables.old).trees e.0) (extractor_of (view_in tables.old) extractor.old)).1.needed ≤ 256 }
     ensures answer { Answered tables.old (walk_in tables.old inputs (expr_in (view_in tables.old).trees e.0) (extractor_of (view_in tables.old) extractor.old)) result tables.new extractor.new }
+    ensures kept { IfOk result (λ r. (walk_in tables.old inputs (expr_in (view_in tables.old).trees e.0) (extractor_of (view_in tables.old) extractor.old)).1.new ≡ false → r.0 ≡ e.0) }
     ensures begins { TablesBegin tables.old tables.new }
 {
     match tables.terms().node(e) {
@@ -119,6 +120,7 @@ pub fn routing_extract(
     requires few { length extractor.old.entries ≤ length (view_in tables.old).trees }
     requires columns { Columned (columns_by (view_in tables.old).functions (nodes_of tables.old) inputs) (needs_of (view_in tables.old) extractor.old) }
     ensures answer { Answered tables.old (walk_in tables.old inputs (expr_in (view_in tables.old).trees e.0) (extractor_of (view_in tables.old) extractor.old)) result tables.new extractor.new }
+    ensures kept { IfOk result (λ r. (walk_in tables.old inputs (expr_in (view_in tables.old).trees e.0) (extractor_of (view_in tables.old) extractor.old)).1.new ≡ false → r.0 ≡ e.0) }
     ensures columns { IfOk result (λ _. Columned (columns_by (view_in tables.new).functions (nodes_of tables.new) inputs) (needs_of (view_in tables.new) extractor.new)) }
     ensures begins { TablesBegin tables.old tables.new }
 {
@@ -141,6 +143,7 @@ pub fn routing_extract_all(
     requires few { length extractor.old.entries ≤ length (view_in tables.old).trees }
     requires columns { Columned (columns_by (view_in tables.old).functions (nodes_of tables.old) inputs) (needs_of (view_in tables.old) extractor.old) }
     ensures answer { AnsweredAll tables.old (walks_in tables.old inputs (exprs_in (view_in tables.old).trees (numbers_of list.now)) (extractor_of (view_in tables.old) extractor.old)) result made.new tables.new extractor.new }
+    ensures kept { IfOk result (λ _. (walks_in tables.old inputs (exprs_in (view_in tables.old).trees (numbers_of list.now)) (extractor_of (view_in tables.old) extractor.old)).1.new ≡ false → numbers_of made.new ≡ numbers_of list.now) }
     ensures columns { IfOk result (λ _. Columned (columns_by (view_in tables.new).functions (nodes_of tables.new) inputs) (needs_of (view_in tables.new) extractor.new)) }
     ensures begins { TablesBegin tables.old tables.new }
 {

@@ -1,5 +1,5 @@
 -- Every number in the tables has at most nine digits: the names that were given are well formed, and a rendered name has none.
-use Rattle.std.proofs.Common.{◌≡◌, ℕ, zero, suc, ◌+◌, ◌^◌, ◌≤◌, Bool, true, false, cond, ◌&&◌, ltb, leb, List, [], ◌∷◌, ◌++◌, map, length, drop, take, sym, refl, ap, ◌∙◌, subst, append_assoc, arith, ap₂, length-append, ◌/◌, ◌%◌, lit≤}
+use Rattle.std.proofs.Common.{◌≡◌, ℕ, zero, suc, ◌+◌, ◌^◌, ◌≤◌, Bool, true, false, cond, ◌&&◌, ltb, leb, List, [], ◌∷◌, ◌++◌, map, length, drop, take, sym, refl, ap, ◌∙◌, subst, append_assoc, arith, ap₂, length-append, ◌/◌, ◌%◌}
 use Rattle.std.specs.List.{flat_map}
 use Rattle.std.specs.Str.{bytes_eq}
 use Rattle.std.specs.Int.Signed.{mag}
@@ -11,7 +11,7 @@ use Rattle.std.proofs.lemmas.Bool.{and_parts, leb-false, leb-true, ltb-true}
 use Rattle.std.proofs.lemmas.Fmt.{length_signed_le}
 use Rattle.std.proofs.lemmas.List.{drop-append-le, map-append}
 use Rattle.numbering.specs.Own.{names_in, own_names}
-use Rattle.numbering.proofs.Highest.{at-below, both-below, built-below, first-below, highest-more, highest-one, none-above, one_name, picked-below, second-below}
+use Rattle.numbering.proofs.Highest.{at-below, both-below, built-below, first-below, highest-append, highest-more, highest-one, none-above, one_name, picked-below, second-below}
 use Rattle.plan.specs.Calls.{good_alias, good_field, good_qualifier, union_of}
 use Rattle.plan.specs.Fields.{every}
 use Rattle.plan.specs.Functions.{Functions, function_at, name_in}
@@ -27,10 +27,10 @@ use Rattle.plan.specs.Terms.Qualifier.{qualified, unqualified}
 use Rattle.rewriting.specs.Generated.{field_names, highest, literal_names, qualifier_names, expr_names, list_names, node_names, plan_names}
 use Rattle.terms.specs.Acceptance.{acceptable}
 use Rattle.names.specs.Spans.{word}
-use Rattle.numbering.proofs.Places.{columns-named, empty-name, of-list, of-nodes, plan-step, plan_own}
+use Rattle.numbering.proofs.Places.{columns-named, empty-name, no-expr-below, of-list, of-nodes, plan-step, plan_own}
 use Rattle.plan.specs.declared.code.JoinKind.{JoinKind}
 use Rattle.std.proofs.lemmas.List.Folds.{flat_map-map}
-use Rattle.stored.specs.Stored.{build_plan, build_plan_node, fields_in, node_trees, plan_nodes, plan_trees, run_exprs, run_numbers, small_number, small_numbers}
+use Rattle.stored.specs.Stored.{build_plan, build_plan_node, fields_in, node_trees, plan_nodes, plan_trees, run_exprs, run_numbers, well_formed}
 use Rattle.stored.specs.declared.node.PlanNode.{PlanNode}
 use Rattle.stored.specs.declared.node.PlanNode.TheVariants.{Aggregate, Filter, Join, Limit, Projection, Sort, SubqueryAlias, Table, Union}
 use Rattle.stored.specs.declared.node.PlanRecord.{PlanRecord}
@@ -83,15 +83,39 @@ module _ (F : Functions) where
   abbrev pub shown_name : Expr → List Name
   shown_name e = one_name (field_of F e)
 
-  literal-low : (v : Literal) → acceptable F (literal v) ≡ true → number_of (field_of F (literal v)).name ≤ most_number
-  literal-low null h = lit≤ tt
-  literal-low (truth true) h = lit≤ tt
-  literal-low (truth false) h = lit≤ tt
-  literal-low (whole n) h =
+  literal-kept : (v : Literal) → acceptable F (literal v) ≡ true → number_of (field_of F (literal v)).name ≤ highest 0 (literal_names v)
+  unfolding literal_names
+  literal-kept null h = let e : number_of (field_of F (literal null)).name ≡ 0 = refl in omega arith
+  literal-kept (truth true) h = let e : number_of (field_of F (literal (truth true))).name ≡ 0 = refl in omega arith
+  literal-kept (truth false) h = let e : number_of (field_of F (literal (truth false))).name ≡ 0 = refl in omega arith
+  literal-kept (whole n) h =
       let l = ltb-true (mag n) (2 ^ 63) h in
       omega (arith, short-none (signed_decimal n) (let k = length_signed_le 20 n (omega arith) l in omega arith))
-  literal-low (real x) h = omega (arith, short-none (field_of F (literal (real x))).name (omega (arith, hex-long 16 (to_bits binary64 x) [])))
-  literal-low (text t) h = good-low t h
+  literal-kept (real x) h = omega (arith, short-none (field_of F (literal (real x))).name (omega (arith, hex-long 16 (to_bits binary64 x) [])))
+  literal-kept (text t) h = omega (arith, highest-one t)
+
+  field-kept : (f : Field) → number_of f.name ≤ highest 0 (field_names f)
+  unfolding field_names
+  field-kept f = omega (arith, highest-more f.name (qualifier_names f.qualifier))
+
+  -- its number is that of a name of the expression, or 0
+  shown-kept : (e : Expr) → acceptable F e ≡ true → number_of (field_of F e).name ≤ highest 0 (expr_names e)
+  unfolding expr_names
+  shown-kept (literal v) h = literal-kept v h
+  shown-kept (reference f) h = field-kept f
+  shown-kept (alias e f) h = omega (arith, highest-append (field_names f) (expr_names e), field-kept f)
+  shown-kept (call n es) h =
+      let e : name_in (function_at F n) ++ (40 ∷ (rendered_all F es ++ (41 ∷ []))) ≡ (name_in (function_at F n) ++ (40 ∷ rendered_all F es)) ++ 41 ∷ [] = sym (append_assoc (name_in (function_at F n)) (40 ∷ rendered_all F es) (41 ∷ [])) in
+      omega (arith, ap number_of e ∙ closed-none (name_in (function_at F n) ++ (40 ∷ rendered_all F es)))
+
+  pub all-shown-kept : (es : List Expr) → every (acceptable F) es ≡ true → highest 0 (flat_map shown_name es) ≤ highest 0 (flat_map expr_names es)
+  all-shown-kept [] h = omega arith
+  all-shown-kept (e ∷ es) h =
+      let p = and_parts (acceptable F e) (every (acceptable F) es) h in
+      omega (arith, highest-append (shown_name e) (flat_map shown_name es), highest-append (expr_names e) (flat_map expr_names es), highest-one (field_of F e).name, shown-kept e p.0, all-shown-kept es p.1)
+
+  pub no-shown-below : (m : ℕ) → highest 0 (shown_name no_expr) ≤ m
+  no-shown-below m = omega (arith, highest-one (field_of F no_expr).name, shown-kept no_expr refl, no-expr-below m)
 
   named-low : (f : Field) → good_field f ≡ true → highest 0 (field_names f) ≤ most_number
   unfolding field_names qualifier_names
@@ -117,28 +141,14 @@ module _ (F : Functions) where
   own-low (alias e f) h = named-low f (and_parts (good_field f) _ (and_parts (good_alias f) _ (and_parts (acceptable F e) _ h).1).0).0
   own-low (call n es) h = none-above most_number
 
-  shown-low : (e : Expr) → acceptable F e ≡ true → number_of (field_of F e).name ≤ most_number
-  shown-low (literal v) h = literal-low v h
-  shown-low (reference f) h = good-low f.name (and_parts (good_name f.name) _ h).0
-  shown-low (alias e f) h = good-low f.name (and_parts (good_name f.name) _ (and_parts (good_field f) _ (and_parts (good_alias f) _ (and_parts (acceptable F e) _ h).1).0).0).0
-  shown-low (call n es) h =
-      let e : name_in (function_at F n) ++ (40 ∷ (rendered_all F es ++ (41 ∷ []))) ≡ (name_in (function_at F n) ++ (40 ∷ rendered_all F es)) ++ 41 ∷ [] = sym (append_assoc (name_in (function_at F n)) (40 ∷ rendered_all F es) (41 ∷ [])) in
-      omega (arith, ap number_of e ∙ closed-none (name_in (function_at F n) ++ (40 ∷ rendered_all F es)))
-
   pub owns-low : (es : List Expr) → every (acceptable F) es ≡ true → highest 0 (flat_map own_names es) ≤ most_number
   owns-low [] h = none-above most_number
   owns-low (e ∷ es) h =
       let p = and_parts (acceptable F e) (every (acceptable F) es) h in
       both-below most_number (own_names e) (flat_map own_names es) (own-low e p.0) (owns-low es p.1)
 
-  pub shown-all-low : (es : List Expr) → every (acceptable F) es ≡ true → highest 0 (flat_map shown_name es) ≤ most_number
-  shown-all-low [] h = none-above most_number
-  shown-all-low (e ∷ es) h =
-      let p = and_parts (acceptable F e) (every (acceptable F) es) h in
-      both-below most_number (shown_name e) (flat_map shown_name es) (omega (arith, highest-one (field_of F e).name, shown-low e p.0)) (shown-all-low es p.1)
-
 -- the names of fields
-mapped-names : (g : Field → Field) (fs : List Field) → ((f : Field) → (g f).name ≡ f.name) → names_in (map g fs) ≡ names_in fs
+pub mapped-names : (g : Field → Field) (fs : List Field) → ((f : Field) → (g f).name ≡ f.name) → names_in (map g fs) ≡ names_in fs
 mapped-names g [] h = refl
 mapped-names g (f ∷ fs) h = ap₂ (λ n ns. n ∷ ns) (h f) (mapped-names g fs h)
 
@@ -150,18 +160,23 @@ module _ (m : ℕ) where
   kept-below true fs h = h
   kept-below false fs h = none-above m
 
-  joined-below : (k : JoinKind) (fs gs : List Field) → highest 0 (names_in fs) ≤ m → highest 0 (names_in gs) ≤ m → highest 0 (names_in (shown k fs gs)) ≤ m
+  pub joined-below : (k : JoinKind) (fs gs : List Field) → highest 0 (names_in fs) ≤ m → highest 0 (names_in gs) ≤ m → highest 0 (names_in (shown k fs gs)) ≤ m
   joined-below k fs gs h i =
       subst (λ ns. highest 0 ns ≤ m) (sym (names-append (kept_if (shows_left k) fs) (kept_if (shows_right k) gs)))
       (both-below m (names_in (kept_if (shows_left k) fs)) (names_in (kept_if (shows_right k) gs)) (kept-below (shows_left k) fs h) (kept-below (shows_right k) gs i))
 
 module _ (F : Functions) where
-  expr-fields : (es : List Expr) → names_in (map (field_of F) es) ≡ flat_map (shown_name F) es
+  pub expr-fields : (es : List Expr) → names_in (map (field_of F) es) ≡ flat_map (shown_name F) es
   expr-fields [] = refl
   expr-fields (e ∷ es) = ap (λ ns. (field_of F e).name ∷ ns) (expr-fields es)
 
-  abbrev plan_fields : Plan → List Name
+  abbrev pub plan_fields : Plan → List Name
   plan_fields p = names_in (fields_of F p)
+
+  pub union-fields-below : (m : ℕ) (ps : List Plan) → highest 0 (flat_map plan_fields ps) ≤ m → highest 0 (plan_fields (union_of ps)) ≤ m
+  union-fields-below m [] k = none-above m
+  union-fields-below m (p ∷ ps) k =
+      subst (λ ns. highest 0 ns ≤ m) (sym (mapped-names without_qualifier (fields_of F p) (λ f. refl))) (first-below m (plan_fields p) (flat_map plan_fields ps) k)
 
   module _ (v : View) (m : ℕ) (known : highest 0 (flat_map (shown_name F) v.trees) ≤ m) (blank : highest 0 (shown_name F no_expr) ≤ m) where
     listed-below : (is : List ℕ) → highest 0 (flat_map (shown_name F) (exprs_in v.trees is)) ≤ m
@@ -173,11 +188,6 @@ module _ (F : Functions) where
     module _ (ts : List Plan) (h : highest 0 (flat_map plan_fields ts) ≤ m) where
       input-below : (i : ℕ) → highest 0 (plan_fields (plan_in ts i)) ≤ m
       input-below i = at-below m plan_fields no_plan (none-above m) ts i h
-
-      union-below : (ps : List Plan) → highest 0 (flat_map plan_fields ps) ≤ m → highest 0 (plan_fields (union_of ps)) ≤ m
-      union-below [] k = none-above m
-      union-below (p ∷ ps) k =
-          subst (λ ns. highest 0 ns ≤ m) (sym (mapped-names without_qualifier (fields_of F p) (λ f. refl))) (first-below m (plan_fields p) (flat_map plan_fields ps) k)
 
       pub fields-step : (fs : List Field) (n : PlanNode) → highest 0 (plan_own (build_plan_node v fs ts n)) ≤ m → highest 0 (plan_fields (build_plan_node v fs ts n)) ≤ m
       fields-step fs (Table k q) own =
@@ -192,36 +202,36 @@ module _ (F : Functions) where
       fields-step fs (Join j l r cs) own = joined-below m j (fields_of F (plan_in ts l.0)) (fields_of F (plan_in ts r.0)) (input-below l.0) (input-below r.0)
       fields-step fs (SubqueryAlias i n) own =
           subst (λ ns. highest 0 ns ≤ m) (sym (mapped-names (qualified_by (word v.bytes n)) (fields_of F (plan_in ts i.0)) (λ f. refl))) (input-below i.0)
-      fields-step fs (Union l) own = union-below (plans_in ts (run_numbers v.entries l)) (picked-below m plan_fields no_plan (none-above m) ts (run_numbers v.entries l) h)
+      fields-step fs (Union l) own = union-fields-below m (plans_in ts (run_numbers v.entries l)) (picked-below m plan_fields no_plan (none-above m) ts (run_numbers v.entries l) h)
 
 -- what a plan's own node brings
-plan-own-low : (p : Plan) → small_numbers p ≡ true → highest 0 (plan_own p) ≤ most_number
-plan-own-low (table k q ns) h =
-    let a = and_parts (small_number q) (every small_number ns) h in
-    omega (arith, highest-more q ns, leb-true (number_of q) most_number a.0, columns-low ns a.1)
+plan-own-low : (F : Functions) (p : Plan) → well_formed F p ≡ true → highest 0 (plan_own p) ≤ most_number
+plan-own-low F (table k q ns) h =
+    let a = and_parts (good_name q) (every good_name ns) h in
+    omega (arith, highest-more q ns, good-low q a.0, columns-low ns a.1)
   where
-    columns-low : (ns : List Name) → every small_number ns ≡ true → highest 0 ns ≤ most_number
+    columns-low : (ns : List Name) → every good_name ns ≡ true → highest 0 ns ≤ most_number
     columns-low [] h = none-above most_number
     columns-low (n ∷ ns) h =
-        let a = and_parts (small_number n) (every small_number ns) h in
-        omega (arith, highest-more n ns, leb-true (number_of n) most_number a.0, columns-low ns a.1)
-plan-own-low (projection es i) h = none-above most_number
-plan-own-low (filter e i) h = none-above most_number
-plan-own-low (sort ks i) h = none-above most_number
-plan-own-low (limit s c i) h = none-above most_number
-plan-own-low (aggregate gs ts i) h = none-above most_number
-plan-own-low (join k cs l r) h = none-above most_number
-plan-own-low (subquery_alias n i) h = omega (arith, highest-one n, leb-true (number_of n) most_number h)
-plan-own-low (union i is) h = none-above most_number
+        let a = and_parts (good_name n) (every good_name ns) h in
+        omega (arith, highest-more n ns, good-low n a.0, columns-low ns a.1)
+plan-own-low F (projection es i) h = none-above most_number
+plan-own-low F (filter e i) h = none-above most_number
+plan-own-low F (sort ks i) h = none-above most_number
+plan-own-low F (limit s c i) h = none-above most_number
+plan-own-low F (aggregate gs ts i) h = none-above most_number
+plan-own-low F (join k cs l r) h = none-above most_number
+plan-own-low F (subquery_alias n i) h = omega (arith, highest-one n, good-low n h)
+plan-own-low F (union i is) h = none-above most_number
 
 no-plan-own : highest 0 (plan_own no_plan) ≤ most_number
 no-plan-own = omega (arith, highest-one [], empty-name)
 
-plans-own-low : (ns : List Node) → every small_numbers (node_trees ns) ≡ true → highest 0 (flat_map (λ n. plan_own n.tree) ns) ≤ most_number
-plans-own-low [] h = none-above most_number
-plans-own-low (n ∷ ns) h =
-    let p = and_parts (small_numbers n.tree) (every small_numbers (node_trees ns)) h in
-    both-below most_number (plan_own n.tree) (flat_map (λ x. plan_own x.tree) ns) (plan-own-low n.tree p.0) (plans-own-low ns p.1)
+plans-own-low : (F : Functions) (ns : List Node) → every (well_formed F) (node_trees ns) ≡ true → highest 0 (flat_map (λ n. plan_own n.tree) ns) ≤ most_number
+plans-own-low F [] h = none-above most_number
+plans-own-low F (n ∷ ns) h =
+    let p = and_parts (well_formed F n.tree) (every (well_formed F) (node_trees ns)) h in
+    both-below most_number (plan_own n.tree) (flat_map (λ x. plan_own x.tree) ns) (plan-own-low F n.tree p.0) (plans-own-low F ns p.1)
 
 -- over nodes as over their trees
 mapped-below : (names : Plan → List Name) (ns : List Node) → highest 0 (flat_map (λ n. names n.tree) ns) ≤ most_number → highest 0 (flat_map names (node_trees ns)) ≤ most_number
@@ -235,10 +245,10 @@ both-lists f g (t ∷ ts) h k =
     (both-lists f g ts (second-below most_number (f t) (flat_map f ts) h) (second-below most_number (g t) (flat_map g ts) k))
 
 -- the names of all fields, and of all trees
-module _ (v : View) (fields : List StoredField) (rs : List PlanRecord) (accepted : every (acceptable v.functions) v.trees ≡ true) (numbered : every small_numbers (plan_trees v fields rs) ≡ true)
+module _ (v : View) (fields : List StoredField) (rs : List PlanRecord) (accepted : every (acceptable v.functions) v.trees ≡ true) (formed : every (well_formed v.functions) (plan_trees v fields rs) ≡ true)
     (exprs : highest 0 (list_names v.trees) ≡ highest 0 (flat_map own_names v.trees)) where
   own : highest 0 (flat_map (λ n. plan_own n.tree) (plan_nodes v fields rs)) ≤ most_number
-  own = plans-own-low (plan_nodes v fields rs) numbered
+  own = plans-own-low v.functions (plan_nodes v fields rs) formed
 
   listed : highest 0 (flat_map expr_names v.trees) ≤ most_number
   listed = omega (arith, exprs, owns-low v.functions v.trees accepted, ap (highest 0) (of-list v.trees))
@@ -251,10 +261,7 @@ module _ (v : View) (fields : List StoredField) (rs : List PlanRecord) (accepted
   fields-low : highest 0 (flat_map (λ n. names_in (fields_of v.functions n.tree)) (plan_nodes v fields rs)) ≤ most_number
   fields-low =
       built-below most_number (build_plan v fields) (λ n. names_in (fields_of v.functions n.tree)) (λ n. plan_own n.tree) no_node no-plan-own
-      (λ ns r h k. fields-step v.functions v most_number (shown-all-low v.functions v.trees accepted) none (node_trees ns) (mapped-below (plan_fields v.functions) ns h) (fields_in v.bytes fields r.fields) r.node k) rs own
-    where
-      none : highest 0 (shown_name v.functions no_expr) ≤ most_number
-      none = omega (arith, highest-one (field_of v.functions no_expr).name, shown-low v.functions no_expr refl)
+      (λ ns r h k. fields-step v.functions v most_number (omega (arith, all-shown-kept v.functions v.trees accepted, listed)) (no-shown-below v.functions most_number) (node_trees ns) (mapped-below (plan_fields v.functions) ns h) (fields_in v.bytes fields r.fields) r.node k) rs own
 
   pub book-low : highest 0 (list_names v.trees ++ node_names v.functions (plan_nodes v fields rs)) ≤ most_number
   book-low =

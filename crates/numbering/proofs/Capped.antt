@@ -106,11 +106,11 @@ next-above t a b m r h k e s =
     let v = view_in t in
     let names = list_names v.trees ++ node_names v.functions (nodes_of t) in
     let exprs = exprs-numbers (text_of t.terms.lexicon) t.terms.entries t.terms.exprs in
-    omega (arith, highest-from 99999999 names, book-numbers v t.fields t.plans exprs, book-low v t.fields t.plans t.terms.accepted t.numbered exprs)
+    omega (arith, highest-from 99999999 names, book-numbers v t.fields t.plans exprs, book-low v t.fields t.plans t.terms.accepted t.formed exprs)
 
 pub next-bounded : (t : Tables) → next_number (model_of t) ≤ most_number + 1
 unfolding next_number book_names
 next-bounded t =
     let v = view_in t in
     let exprs = exprs-numbers (text_of t.terms.lexicon) t.terms.entries t.terms.exprs in
-    omega (arith, highest-from 99999999 (list_names v.trees ++ node_names v.functions (nodes_of t)), book-low v t.fields t.plans t.terms.accepted t.numbered exprs)
+    omega (arith, highest-from 99999999 (list_names v.trees ++ node_names v.functions (nodes_of t)), book-low v t.fields t.plans t.terms.accepted t.formed exprs)

@@ -1,5 +1,6 @@
 mod Digits
-mod Highest
-mod Places
+pub mod Highest
+pub mod Places
 mod Capped
 mod Bounded
+pub mod Kept

@@ -47,7 +47,7 @@ own-of-expr (reference f) = omega arith
 own-of-expr (alias e f) = omega (arith, highest-append (field_names f) (expr_names e))
 own-of-expr (call n es) = omega (arith, highest-none)
 
-no-expr-below : (m : ℕ) → highest 0 (expr_names no_expr) ≤ m
+pub no-expr-below : (m : ℕ) → highest 0 (expr_names no_expr) ≤ m
 unfolding expr_names literal_names
 no-expr-below m = none-above m
 
@@ -96,11 +96,11 @@ of-inputs (p ∷ ps) = ap (λ ns. plan_names p ++ ns) (of-inputs ps)
 pub empty-name : number_of [] ≡ 0
 empty-name = refl
 
-no-plan-below : (m : ℕ) → highest 0 (plan_names no_plan) ≤ m
+pub no-plan-below : (m : ℕ) → highest 0 (plan_names no_plan) ≤ m
 unfolding plan_names
 no-plan-below m = omega (arith, highest-one [], empty-name)
 
-union-below : (m : ℕ) (ps : List Plan) → highest 0 (flat_map plan_names ps) ≤ m → highest 0 (plan_names (union_of ps)) ≤ m
+pub union-below : (m : ℕ) (ps : List Plan) → highest 0 (flat_map plan_names ps) ≤ m → highest 0 (plan_names (union_of ps)) ≤ m
 unfolding plan_names
 union-below m [] h = no-plan-below m
 union-below m (p ∷ ps) h = subst (λ ns. highest 0 (plan_names p ++ ns) ≤ m) (sym (of-inputs ps)) h
@@ -183,7 +183,7 @@ module _ (F : Functions) where
   own-below m (subquery_alias n i) h = second-below m (names_in (fields_of F (subquery_alias n i))) (n ∷ []) h
   own-below m (union i is) h = none-above m
 
-  trees-below : (m : ℕ) (ns : List Node) → highest 0 (flat_map (node_all F) ns) ≤ m → highest 0 (flat_map plan_names (node_trees ns)) ≤ m
+  pub trees-below : (m : ℕ) (ns : List Node) → highest 0 (flat_map (node_all F) ns) ≤ m → highest 0 (flat_map plan_names (node_trees ns)) ≤ m
   trees-below m [] h = none-above m
   trees-below m (n ∷ ns) h =
       both-below m (plan_names n.tree) (flat_map plan_names (node_trees ns)) (second-below m (names_in (fields_of F n.tree)) (plan_names n.tree) (first-below m (node_all F n) (flat_map (node_all F) ns) h))

@@ -424,7 +424,7 @@ lower-names : (m : Model) → AllByRecursion (λ x. number_of x < next_number m)
 unfolding next_number
 lower-names m = All-weaker _ _ (λ x h. suc-le-suc h) (book_names m) (highest-above 99999999 (book_names m))
 
-fields-lower : (s : Model) → AllByRecursion (λ n. AllByRecursion (λ f. number_of f.name < next_number s) (fields_of s.functions n.tree)) s.plans
+pub fields-lower : (s : Model) → AllByRecursion (λ n. AllByRecursion (λ f. number_of f.name < next_number s) (fields_of s.functions n.tree)) s.plans
 unfolding book_names
 fields-lower s =
     node-names s.functions (λ x. number_of x < next_number s) s.plans

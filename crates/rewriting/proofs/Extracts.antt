@@ -226,7 +226,7 @@ entry-sided : (fl fr : List Field) (s : Side) (n : ℕ) (es : Exprs) (x : Name) 
 unfolding Sided
 entry-sided fl fr s n es x k p = (k, p)
 
-owner-side : (a b : Bool) (s : Side) → owner_of a b ≡ Some s → ((s ≡ one) × T a) ⊎ ((s ≡ two) × T b)
+pub owner-side : (a b : Bool) (s : Side) → owner_of a b ≡ Some s → ((s ≡ one) × T a) ⊎ ((s ≡ two) × T b)
 unfolding owner_of
 owner-side true true s p = let z : ◌≡◌ {A = ℕ} 0 1 = cc in absurd (omega arith)
 owner-side true false s p = inl (cc, tt)

@@ -18,7 +18,7 @@ le_yes m n h = go (leb m n) (λ t. nleb→lt m n t)
     go true f = tt
     go false f = let l = f tt in absurd (omega arith)
 
-yes_true : (b : Bool) → T b → b ≡ true
+pub yes_true : (b : Bool) → T b → b ≡ true
 yes_true true h = refl
 yes_true false h = absurd h
 

@@ -17,8 +17,10 @@ pub mod Worked
 pub mod Fresh
 pub mod Numbers
 pub mod Marked
+pub mod Limits
 pub mod Swapping
 pub mod Building
 pub mod Book
+pub mod Takings
 pub mod Reached
 pub mod Sample

@@ -107,14 +107,14 @@ and-false : (a b : Bool) → b ≡ false → a && b ≡ false
 and-false true b p = p
 and-false false b p = refl
 
-no_or : (a b : Bool) → T (not a) → T (not b) → T (not (a || b))
+pub no_or : (a b : Bool) → T (not a) → T (not b) → T (not (a || b))
 no_or true b h k = h
 no_or false b h k = k
 
 no-and : (a b : Bool) → b ≡ false → T (not (a && b))
 no-and a b p = rw (and-false a b p) tt
 
-no-left : (a b : Bool) → a ≡ false → T (not (a && b))
+pub no-left : (a b : Bool) → a ≡ false → T (not (a && b))
 no-left true b p = let z : ◌≡◌ {A = ℕ} 0 1 = cc in absurd (omega arith)
 no-left false b p = tt
 

@@ -80,7 +80,7 @@ back_to_lem F K e b s = go (same_field (field_of F b) (field_of F e)) (λ h. fie
 abbrev pub Here : List Field → Entry → Type 0
 Here fs d = (d.0 ≡ one) × Known fs d.1
 
-owned-one : (fs : List Field) (e : Expr) (s : Side) → find_sole_input (schema_columns fs) e ≡ Some s → s ≡ one
+pub owned-one : (fs : List Field) (e : Expr) (s : Side) → find_sole_input (schema_columns fs) e ≡ Some s → s ≡ one
 unfolding find_sole_input owner_of
 owned-one fs e s p = go (has_all_column_refs (schema_columns fs) e) p
   where

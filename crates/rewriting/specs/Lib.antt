@@ -8,6 +8,7 @@ pub mod Laws
 pub mod Worked
 pub mod Fresh
 pub mod Marked
+pub mod Limits
 pub mod Book
 pub mod Reached
 pub mod Sample

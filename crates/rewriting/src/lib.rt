@@ -4,6 +4,7 @@
 ghost use Rattle.rewriting.specs.Book.{Law};
 ghost use Rattle.rewriting.specs.Fresh.{GeneratedIsGood, GeneratedIsNew, NumbersStay};
 ghost use Rattle.rewriting.specs.Laws.{ExtractLaw, PushLaw};
+ghost use Rattle.rewriting.specs.Limits.{ExtractIsLimited};
 ghost use Rattle.rewriting.specs.Marked.{ExtractLeavesNothing};
 ghost use Rattle.rewriting.specs.Reached.{ReachedHolds};
 ghost use Rattle.rewriting.specs.Ring.{RingHolds};
@@ -35,6 +36,11 @@ pub fn push_keeps()
 /// After an extract the rebuilt node has, outside prefixed aliases, no Marked call that exactly one former input owns.
 pub fn extract_leaves_nothing()
     ensures { ExtractLeavesNothing }
+{}
+
+/// The Projection that extract builds over an input is refused by question 8 or by none.
+pub fn extract_is_limited()
+    ensures { ExtractIsLimited }
 {}
 
 /// A generated alias is no name and no text literal of the book.

@@ -18,9 +18,9 @@ use Rattle.names.specs.Spans.{word}
 use Rattle.terms.specs.Views.{View, grown}
 use Rattle.entries.specs.declared.node.Entry.{Entry}
 use Rattle.entries.specs.declared.node.StoredField.{StoredField}
-use Rattle.lexicon.proofs.Frames.{every_append}
+use Rattle.lexicon.proofs.Frames.{every_append, every-at}
 use Rattle.terms.proofs.Frames.{stored-grow}
-use Rattle.stored.specs.Stored.{fields_in, run_in, run_numbers, run_exprs, run_keys, build_plan_node, build_plan, plan_nodes, plan_trees, node_trees, list_in, inside_node, inside_plan, accepted_node, sound_plans, same_fields, fielded_at, fielded, small_numbers}
+use Rattle.stored.specs.Stored.{fields_in, run_in, run_numbers, run_exprs, run_keys, build_plan_node, build_plan, plan_nodes, plan_trees, node_trees, list_in, inside_node, inside_plan, accepted_node, sound_plans, same_fields, fielded_at, fielded, well_formed}
 use Rattle.stored.specs.declared.node.PlanNode.{PlanNode}
 use Rattle.stored.specs.declared.node.PlanNode.TheVariants.{Table, Projection, Filter, Sort, Limit, Aggregate, Join, SubqueryAlias, Union}
 use Rattle.stored.specs.declared.node.PlanRecord.{PlanRecord}
@@ -92,7 +92,7 @@ pub record PlanFacts (v : View) (fields : List StoredField) (rs : List PlanRecor
   pub are-sound : sound_plans v fields rs ≡ true
   pub are-fielded : fielded v fields rs ≡ true
   pub have-sizes : map (λ r. r.size) rs ≡ map plan_size_of (plan_trees v fields rs)
-  pub are-numbered : every small_numbers (plan_trees v fields rs) ≡ true
+  pub are-formed : every (well_formed v.functions) (plan_trees v fields rs) ≡ true
 
 -- expressions, text, lists and fields are added
 pub facts-grow : (v : View) (ts' : List Expr) (bs' : List ℕ) (es' : List Entry) (fields fs' : List StoredField) (rs : List PlanRecord)
@@ -113,7 +113,7 @@ facts-grow v ts' bs' es' fields fs' rs new k =
           ap (λ fs. same_fields fs (fields_of v.functions (plan_in (plan_trees v fields rs) i))) (fields-grow v ts' bs' es' fields fs' k.are-stored r.fields x.0).1 ∙ p.1)
           (ok-both (inside_plan v fields) (fielded_at v fields (plan_trees v fields rs)) 0 rs k.are-sound k.are-fielded);
       have-sizes = k.have-sizes ∙ sym (ap (λ ns. map plan_size_of (node_trees ns)) g.1);
-      are-numbered = ap (λ ns. every small_numbers (node_trees ns)) g.1 ∙ k.are-numbered;
+      are-formed = ap (λ ns. every (well_formed v.functions) (node_trees ns)) g.1 ∙ k.are-formed;
     }
 
 pub nodes-length : (v : View) (fields : List StoredField) (rs : List PlanRecord) → length (plan_nodes v fields rs) ≡ length rs
@@ -131,7 +131,7 @@ module _ (v : View) (fields : List StoredField) (rs R : List PlanRecord) (r : Pl
   trees-push = ap node_trees nodes-push ∙ map_push (λ n. n.tree) (plan_nodes v fields rs) (build_plan v fields (plan_nodes v fields rs) r)
 
   pub facts-push : inside_plan v fields (length rs) r ≡ true → fields_in v.bytes fields r.fields ≡ fields_of v.functions (build_plan v fields (plan_nodes v fields rs) r).tree
-      → r.size ≡ plan_size_of (build_plan v fields (plan_nodes v fields rs) r).tree → small_numbers (build_plan v fields (plan_nodes v fields rs) r).tree ≡ true → PlanFacts v fields R
+      → r.size ≡ plan_size_of (build_plan v fields (plan_nodes v fields rs) r).tree → well_formed v.functions (build_plan v fields (plan_nodes v fields rs) r).tree ≡ true → PlanFacts v fields R
   facts-push i f s u =
       let t = (build_plan v fields (plan_nodes v fields rs) r).tree in
       let ts = plan_trees v fields rs in
@@ -146,7 +146,7 @@ module _ (v : View) (fields : List StoredField) (rs R : List PlanRecord) (r : Pl
             (λ j x lo hi h. ap (λ p. same_fields (fields_in v.bytes fields x.fields) (fields_of v.functions p)) (get_or_append_left ts (t ∷ []) no_plan j (omega arith)) ∙ h) k.are-fielded)
             (fields-test _ _ (f ∙ ap (fields_of v.functions) (sym (get_or_at ts t [] no_plan (0 + length rs) (omega arith)))));
         have-sizes = ap (map (λ x. x.size)) e ∙ map_push (λ x. x.size) rs r ∙ ap₂ (λ xs y. xs ++ y ∷ []) k.have-sizes s ∙ sym (map_push plan_size_of ts t) ∙ sym (ap (map plan_size_of) trees-push);
-        are-numbered = ap (every small_numbers) trees-push ∙ every_append small_numbers ts (t ∷ []) k.are-numbered (and_from _ _ u refl);
+        are-formed = ap (every (well_formed v.functions)) trees-push ∙ every_append (well_formed v.functions) ts (t ∷ []) k.are-formed (and_from _ _ u refl);
       }
 
 -- a node's tree by the trees of its inputs
@@ -192,6 +192,7 @@ pub record PlanAt (v : View) (fields : List StoredField) (rs : List PlanRecord) 
   pub has-origin : r.origin.0 ≡ (get_or (plan_nodes v fields rs) i (record { tree = no_plan; origin = 0 })).origin
   pub old-origin : leb r.origin.0 i ≡ true
   pub small : leb r.size 64 ≡ true
+  pub is-formed : well_formed v.functions (plan_in (plan_trees v fields rs) i) ≡ true
 
 pub plan-at : (v : View) (fields : List StoredField) (rs : List PlanRecord) (i : ℕ) (r : PlanRecord) → PlanFacts v fields rs → i < length rs → r ≡ get_or rs i r → PlanAt v fields rs i r
 plan-at v fields rs i r k lt e =
@@ -220,4 +221,5 @@ plan-at v fields rs i r k lt e =
       has-origin = sym (ap (λ x. x.origin) n);
       old-origin = (and_parts (leb r.origin.0 i) (leb r.size 64) q.1).0;
       small = (and_parts (leb r.origin.0 i) (leb r.size 64) q.1).1;
+      is-formed = every-at (well_formed v.functions) (plan_trees v fields rs) i no_plan (omega (arith, trees-length v fields rs)) k.are-formed;
     }

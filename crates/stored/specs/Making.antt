@@ -1,14 +1,15 @@
 -- A node that is to be made; cited by src/placing.rt, src/own.rt and the crates above.
 --     tree_over v k ts n      the tree that it would be
---     present_in v k n, bounded n, well_named n      what a building call has asked before: questions 1, 3 and 2
+--     present_in v k n, bounded n, well_named n, well_placed_in v n      what a building call has asked before: questions 1, 3 and 2, and 4 of a Projection
 --     inputs_for n      the numbers of its inputs
 --     entries_for n, bytes_for n      the list entries and the bytes of its own that it takes
-use Rattle.std.specs.Prelude.{ℕ, ◌+◌, Bool, true, ◌&&◌, List, [], ◌∷◌, map, length, nat_le}
+use Rattle.std.specs.Prelude.{ℕ, ◌+◌, Bool, true, not, ◌&&◌, List, [], ◌∷◌, map, length, nat_le}
 use Rattle.plan.specs.Names.{good_name}
 use Rattle.plan.specs.Terms.{Expr}
 use Rattle.plan.specs.Plans.{Plan, Key}
 use Rattle.plan.specs.Plans.Plan.{table, projection, filter, sort, limit, aggregate, join, subquery_alias}
-use Rattle.plan.specs.Fields.{every}
+use Rattle.plan.specs.Fields.{any, every}
+use Rattle.plan.specs.Functions.{is_total}
 use Rattle.plan.specs.Model.{expr_in, exprs_in, plan_in, plans_in}
 use Rattle.plan.specs.Calls.{below, all_below, between, parts, union_of}
 use Rattle.terms.specs.Views.{View, numbers_of}
@@ -73,6 +74,18 @@ well_named (Aggregate i gs us) = true
 well_named (Join k l r cs) = true
 well_named (SubqueryAlias i n) = good_name n.now
 well_named (Union is) = true
+
+-- no total stands in a Projection
+abbrev pub well_placed_in : View → NewNode → Bool
+well_placed_in v (Table q ns) = true
+well_placed_in v (Projection i l) = not (any (is_total v.functions) (exprs_in v.trees (numbers_of l.now)))
+well_placed_in v (Filter i e) = true
+well_placed_in v (Sort i ks) = true
+well_placed_in v (Limit i s c) = true
+well_placed_in v (Aggregate i gs us) = true
+well_placed_in v (Join k l r cs) = true
+well_placed_in v (SubqueryAlias i n) = true
+well_placed_in v (Union is) = true
 
 abbrev pub entries_for : NewNode → ℕ
 entries_for (Table q ns) = 0

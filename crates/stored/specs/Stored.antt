@@ -5,16 +5,17 @@
 --     accepted_node bytes n      its lists are not too long and its name is well formed, as its building call asked
 --     inside_plan v fields i r      the record at i names parts of the tables and lower numbers only
 --     same_fields      two lists of fields are the same, as a test
---     small_numbers p      the names that the plan's own node brings have numbers of at most nine digits
-use Rattle.std.specs.Prelude.{ℕ, ◌+◌, Bool, true, false, ◌&&◌, List, [], ◌∷◌, map, length, ◌==◌, nat_le, nat_lt}
+--     well_formed F p      what the building call of the plan's own node asked of the names that it brings, and of a Projection's list
+use Rattle.std.specs.Prelude.{ℕ, ◌+◌, Bool, true, false, not, ◌&&◌, List, [], ◌∷◌, map, length, ◌==◌, nat_le, nat_lt}
 use Rattle.table.specs.Contents.{part}
 use Rattle.table.specs.Fold.{built, all_ok}
 use Rattle.plan.specs.Terms.{Field, Expr, same_field}
 use Rattle.plan.specs.Plans.{Plan, Key as PlanKey, fields_of}
 use Rattle.plan.specs.Plans.Plan.{table, projection, filter, sort, limit, aggregate, join, subquery_alias, union}
 use Rattle.plan.specs.Model.{Node, expr_in, exprs_in, plan_in, plans_in}
-use Rattle.plan.specs.Names.{Name, good_name, most_number, number_of}
-use Rattle.plan.specs.Fields.{every}
+use Rattle.plan.specs.Functions.{Functions, is_total}
+use Rattle.plan.specs.Names.{good_name}
+use Rattle.plan.specs.Fields.{any, every}
 use Rattle.plan.specs.Calls.{all_below, between, union_of}
 use Rattle.plan.specs.declared.code.Direction.{Direction}
 use Rattle.plan.specs.declared.code.Direction.TheVariants.{AscendingNullsFirst}
@@ -140,16 +141,14 @@ fielded_at v fields ts i r = same_fields (fields_in v.bytes fields r.fields) (fi
 abbrev pub fielded : View → List StoredField → List PlanRecord → Bool
 fielded v fields rs = all_ok (fielded_at v fields (plan_trees v fields rs)) 0 rs
 
-abbrev pub small_number : Name → Bool
-small_number n = nat_le (number_of n) most_number
-
-abbrev pub small_numbers : Plan → Bool
-small_numbers (table k q ns) = small_number q && every small_number ns
-small_numbers (projection es i) = true
-small_numbers (filter e i) = true
-small_numbers (sort ks i) = true
-small_numbers (limit s c i) = true
-small_numbers (aggregate gs ts i) = true
-small_numbers (join k cs l r) = true
-small_numbers (subquery_alias n i) = small_number n
-small_numbers (union i is) = true
+-- names are well formed, and no total stands in a Projection
+abbrev pub well_formed : Functions → Plan → Bool
+well_formed F (table k q ns) = good_name q && every good_name ns
+well_formed F (projection es i) = not (any (is_total F) es)
+well_formed F (filter e i) = true
+well_formed F (sort ks i) = true
+well_formed F (limit s c i) = true
+well_formed F (aggregate gs ts i) = true
+well_formed F (join k cs l r) = true
+well_formed F (subquery_alias n i) = good_name n
+well_formed F (union i is) = true

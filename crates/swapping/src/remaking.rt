@@ -1,6 +1,8 @@
 //! A node made anew on another input: its lists and its name are copied, and lent to the new node.
-ghost use Rattle.std.specs.Prelude.{◌≡◌, ◌<◌, true, [], ◌∷◌, length, nat_le, slice_set};
+ghost use Rattle.std.specs.Prelude.{◌≡◌, ◌<◌, true, not, [], ◌∷◌, length, nat_le, slice_set};
 ghost use Rattle.plan.specs.Calls.{all_below, between, union_of};
+ghost use Rattle.plan.specs.Fields.{any};
+ghost use Rattle.plan.specs.Functions.{is_total};
 ghost use Rattle.plan.specs.Model.{inputs_at, plans_in};
 ghost use Rattle.plan.specs.Names.{good_name};
 ghost use Rattle.plan.specs.Plans.Plan.{aggregate, join, projection, sort, subquery_alias};
@@ -25,6 +27,7 @@ fn remake_projection(tables: &mut Tables, input: PlanId, list: Run) -> Result<Pl
     requires input { input.0 < plan_count tables.old }
     requires list { list_in (view_in tables.old) list ≡ true }
     requires few { nat_le list.count 64 ≡ true }
+    requires placed { not (any (is_total (view_in tables.old).functions) (run_exprs (view_in tables.old) list)) ≡ true }
     ensures { TreeMade (model_of tables.old) (projection (run_exprs (view_in tables.old) list) (tree_in tables.old input.0)) (input.0 ∷ []) result (model_of tables.new) }
 {
     let own: Table<ExprId, 64> = copied(tables.terms().entries(list));

@@ -9,7 +9,7 @@ use Rattle.plan.specs.Plans.{Plan, fields_of, plan_size_of}
 use Rattle.plan.specs.Fields.{every}
 use Rattle.plan.specs.Questions.{limited, expressions_of, shown_expressions, small_tree, short_name}
 use Rattle.plan.specs.Model.{Space, fits, plans_in}
-use Rattle.plan.specs.Calls.{parts, rendered_bytes, union_of}
+use Rattle.plan.specs.Calls.{between, parts, rendered_bytes, union_of}
 use Rattle.entries.specs.Spans.{stored_field, stored_in}
 use Rattle.names.specs.Spans.{word}
 use Rattle.terms.specs.Views.{View, grown}
@@ -20,10 +20,10 @@ use Rattle.entries.specs.declared.node.StoredField.{StoredField}
 use Rattle.draft.specs.Drafts.{draft_field, draft_in, draft_bytes, StoredAll}
 use Rattle.draft.specs.declared.word.DraftField.{DraftField}
 use Rattle.draft.proofs.Keeping.{drafts-grown}
-use Rattle.stored.specs.Stored.{fields_in, build_plan_node, build_plan, plan_nodes, node_trees, node_inputs, inputs_from, inside_node, accepted_node, inside_plan, small_number, small_numbers}
+use Rattle.stored.specs.Stored.{fields_in, build_plan_node, build_plan, plan_nodes, node_trees, node_inputs, inputs_from, inside_node, accepted_node, inside_plan, well_formed}
 use Rattle.tables.specs.Holding.{view_in, nodes_of, trees_in, plan_count, model_from, model_of}
-use Rattle.stored.specs.Making.{tree_over, entries_for, bytes_for, well_named, input_numbers, inputs_for}
-use Rattle.tables.specs.Making.{tree_for, outlay_for, NodeStored}
+use Rattle.stored.specs.Making.{tree_over, entries_for, bytes_for, bounded, well_named, well_placed_in, input_numbers, inputs_for}
+use Rattle.tables.specs.Making.{tree_for, outlay_for, well_placed, NodeStored}
 use Rattle.stored.specs.Keys.{key_entry}
 use Rattle.stored.specs.Placing.{own_text, own_entries, lent_owner, lent_given, PlacedAs}
 use Rattle.stored.specs.declared.node.NewNode.{NewNode}
@@ -83,32 +83,21 @@ grown-then v w u a b e p q =
 pub stored-for : (w u : View) (o g : List ℕ) (ds es : List DraftField) (fs F : List StoredField) → ds ≡ es → StoredAll w o g ds fs u F → StoredAll w o g es fs u F
 stored-for w u o g ds es fs F e h = subst (λ l. StoredAll w o g l fs u F) e h
 
--- a well formed name has a small number
-small : (n : Name) → good_name n ≡ true → small_number n ≡ true
-small n h = (and_parts _ _ (and_parts _ _ h).1).1
-
-all-small : (ns : List Name) → every good_name ns ≡ true → every small_number ns ≡ true
-all-small [] h = refl
-all-small (n ∷ ns) h =
-    let p = and_parts (good_name n) (every good_name ns) h in
-    and_from _ _ (small n p.0) (all-small ns p.1)
-
-numbers-brought : (v : View) (k : ℕ) (ts : List Plan) (n : NewNode) → well_named n ≡ true → small_numbers (tree_over v k ts n) ≡ true
-numbers-brought v k ts (Table q ns) h =
-    let p = and_parts (good_name q.now) (every good_name (parts ns.now)) h in
-    and_from _ _ (small q.now p.0) (all-small (parts ns.now) p.1)
-numbers-brought v k ts (Projection i l) h = refl
-numbers-brought v k ts (Filter i e) h = refl
-numbers-brought v k ts (Sort i ks) h = refl
-numbers-brought v k ts (Limit i s c) h = refl
-numbers-brought v k ts (Aggregate i gs us) h = refl
-numbers-brought v k ts (Join j l r cs) h = refl
-numbers-brought v k ts (SubqueryAlias i n) h = small n.now h
-numbers-brought v k ts (Union is) h = of-union (plans_in ts (input_numbers is.now))
+-- what the new node brings is well formed
+formed-brought : (v : View) (k : ℕ) (ts : List Plan) (n : NewNode) → bounded n ≡ true → well_named n ≡ true → well_placed_in v n ≡ true → well_formed v.functions (tree_over v k ts n) ≡ true
+formed-brought v k ts (Table q ns) b h p = h
+formed-brought v k ts (Projection i l) b h p = p
+formed-brought v k ts (Filter i e) b h p = refl
+formed-brought v k ts (Sort i ks) b h p = refl
+formed-brought v k ts (Limit i s c) b h p = refl
+formed-brought v k ts (Aggregate i gs us) b h p = refl
+formed-brought v k ts (Join j l r cs) b h p = refl
+formed-brought v k ts (SubqueryAlias i n) b h p = h
+formed-brought v k ts (Union is) b h p = of-union is.now b
   where
-    of-union : (ps : List Plan) → small_numbers (union_of ps) ≡ true
-    of-union [] = refl
-    of-union (p ∷ ps) = refl
+    of-union : (ps : List PlanId) → between 1 8 (length ps) ≡ true → well_formed v.functions (union_of (plans_in ts (input_numbers ps))) ≡ true
+    of-union [] b = absurd (let z : ◌≡◌ {A = ℕ} 0 1 = cc in omega arith)
+    of-union (p ∷ ps) b = refl
 
 -- after the names and lists: the draft is as it was
 module _ (t : Tables) (n : NewNode) (k : ℕ) (ds : List DraftField) (dr : ShownDraft t n ds) (w : View) (x : Placed) (px : PlacedAs (view_in t) k n x w) where
@@ -131,7 +120,7 @@ module _ (t : Tables) (n : NewNode) (k : ℕ) (ds : List DraftField) (dr : Shown
 
   module _ (ke : k ≡ plan_count t) (u : View) (F : List StoredField)
       (st : StoredAll w (word w.bytes x.lent.owner) (word w.bytes x.lent.given) ds t.fields u F)
-      (lim : limited (view_in t).functions (tree_for t n) ≡ true) (named : well_named n ≡ true) (number : PlanId) (ne : number.0 ≡ k) (first count size : ℕ) (fe : first ≡ length t.fields) (ce : count ≡ length ds) (se : size ≡ plan_size_of (tree_for t n))
+      (lim : limited (view_in t).functions (tree_for t n) ≡ true) (few : bounded n ≡ true) (named : well_named n ≡ true) (well : well_placed t n ≡ true) (number : PlanId) (ne : number.0 ≡ k) (first count size : ℕ) (fe : first ≡ length t.fields) (ce : count ≡ length ds) (se : size ≡ plan_size_of (tree_for t n))
       (R : List PlanRecord) (Re : R ≡ t.plans ++ record { node = x.node; fields = record { first = first; count = count }; size = size; origin = number } ∷ []) where
     abbrev new : PlanRecord
     new = record { node = x.node; fields = record { first = first; count = count }; size = size; origin = number }
@@ -177,7 +166,7 @@ module _ (t : Tables) (n : NewNode) (k : ℕ) (ds : List DraftField) (dr : Shown
     pub added-facts : PlanFacts u F R
     added-facts =
         facts-push u F t.plans R new Re before is-inside (has-fields ∙ ap₂ fields_of (sym (ap (λ y. y.functions) seen)) (sym has-tree)) (se ∙ ap plan_size_of (sym has-tree))
-        (ap small_numbers has-tree ∙ numbers-brought (view_in t) (plan_count t) (trees_in t) n named)
+        (ap₂ well_formed (ap (λ y. y.functions) seen) has-tree ∙ formed-brought (view_in t) (plan_count t) (trees_in t) n few named well)
 
     all-nodes : plan_nodes u F R ≡ nodes_of t ++ record { tree = tree_for t n; origin = plan_count t } ∷ []
     all-nodes =

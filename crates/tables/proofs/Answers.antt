@@ -17,7 +17,7 @@ use Rattle.entries.specs.declared.node.StoredField.{StoredField}
 use Rattle.plan.specs.Fields.{every}
 use Rattle.plan.specs.Plans.{plan_size_of}
 use Rattle.entries.specs.Spans.{stored_in}
-use Rattle.stored.specs.Stored.{plan_nodes, plan_trees, inputs_from, sound_plans, fielded, small_numbers}
+use Rattle.stored.specs.Stored.{plan_nodes, plan_trees, inputs_from, sound_plans, fielded, well_formed}
 use Rattle.tables.specs.Holding.{view_in, nodes_of, model_from, model_of}
 use Rattle.tables.specs.Answering.{answered_expr}
 use Rattle.stored.specs.declared.node.PlanRecord.{PlanRecord}
@@ -51,13 +51,13 @@ StillHeld t w = record {
   sound : sound_plans w t.fields t.plans ≡ true;
   fielded : fielded w t.fields t.plans ≡ true;
   sizes : map (λ r. r.size) t.plans ≡ map plan_size_of (plan_trees w t.fields t.plans);
-  numbered : every small_numbers (plan_trees w t.fields t.plans) ≡ true;
+  formed : every (well_formed w.functions) (plan_trees w t.fields t.plans) ≡ true;
 }
 
 pub still-held : (t : Tables) (w : View) (c : Call) (r : Result ExprId Fault) → Answered (view_in t) c r w → StillHeld t w
 still-held t w c r a =
     let k = facts-answered (view_in t) w c r t.fields t.plans a (facts-in t) in
-    record { few_fields = t.few_fields; few_plans = t.few_plans; stored = k.are-stored; sound = k.are-sound; fielded = k.are-fielded; sizes = k.have-sizes; numbered = k.are-numbered }
+    record { few_fields = t.few_fields; few_plans = t.few_plans; stored = k.are-stored; sound = k.are-sound; fielded = k.are-fielded; sizes = k.have-sizes; formed = k.are-formed }
 
 -- a call that makes an expression asks and costs the same of the book as of its expressions
 pub record SameCall (m : Model) (v : View) (c : Call) : Type 0 where

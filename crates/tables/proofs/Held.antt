@@ -10,7 +10,7 @@ use Rattle.tables.specs.declared.tables.Tables.{Tables}
 use Rattle.stored.proofs.PlanFacts.{PlanFacts, plan-at, nodes-length}
 
 pub facts-in : (t : Tables) → PlanFacts (view_in t) t.fields t.plans
-facts-in t = record { are-stored = t.stored; are-sound = t.sound; are-fielded = t.fielded; have-sizes = t.sizes; are-numbered = t.numbered }
+facts-in t = record { are-stored = t.stored; are-sound = t.sound; are-fielded = t.fielded; have-sizes = t.sizes; are-formed = t.formed }
 
 pub counted : (t : Tables) → plan_count t ≡ length t.plans
 counted t = nodes-length (view_in t) t.fields t.plans
@@ -30,4 +30,5 @@ reads_as t i r lt e =
       origin = a.has-origin;
       older = leb-true _ _ a.old-origin;
       small = leb-true _ _ a.small;
+      formed = a.is-formed;
     }

@@ -14,7 +14,7 @@ use Rattle.entries.specs.declared.node.PlanId.{PlanId}
 use Rattle.entries.specs.declared.node.StoredField.{StoredField}
 use Rattle.tables.specs.Holding.{model_from}
 use Rattle.tables.specs.Origins.{OriginGiven}
-use Rattle.stored.specs.Stored.{fields_in, run_in, build_plan_node, build_plan, plan_nodes, plan_trees, node_trees, node_inputs, inputs_from, inside_node, accepted_node, inside_plan, fielded_at, small_numbers}
+use Rattle.stored.specs.Stored.{fields_in, run_in, build_plan_node, build_plan, plan_nodes, plan_trees, node_trees, node_inputs, inputs_from, inside_node, accepted_node, inside_plan, fielded_at, well_formed}
 use Rattle.stored.specs.declared.node.PlanRecord.{PlanRecord}
 use Rattle.stored.proofs.PlanFacts.{PlanFacts, ok_at}
 
@@ -86,7 +86,7 @@ module _ (v : View) (fields : List StoredField) (rs R : List PlanRecord) (i : �
         are-sound = ap (all_ok (inside_plan v fields) 0) e ∙ ok-set (inside_plan v fields) 0 rs i given k.are-sound (subst (λ j. inside_plan v fields j given ≡ true) z new);
         are-fielded = ap₂ (λ us xs. all_ok (fielded_at v fields us) 0 xs) trees e ∙ ok-set (fielded_at v fields ts) 0 rs i given k.are-fielded old;
         have-sizes = ap (map (λ x. x.size)) e ∙ map-set_same (λ x. x.size) rs i given r (ap (λ x. x.size) at) ∙ k.have-sizes ∙ sym (ap (map plan_size_of) trees);
-        are-numbered = ap (every small_numbers) trees ∙ k.are-numbered;
+        are-formed = ap (every (well_formed v.functions)) trees ∙ k.are-formed;
       }
 
   pub origin-given : OriginGiven (model_from v fields rs) i o.0 (model_from v fields R)

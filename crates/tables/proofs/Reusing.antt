@@ -24,7 +24,7 @@ module _ (t : Tables) (w : View) (e : Expr) where
   pub held-reused : (r : Result ExprId Fault) → Reusing.Reused (view_in t) e r w → StillHeld t w
   held-reused r a =
       let k = facts_reused r a in
-      record { few_fields = t.few_fields; few_plans = t.few_plans; stored = k.are-stored; sound = k.are-sound; fielded = k.are-fielded; sizes = k.have-sizes; numbered = k.are-numbered }
+      record { few_fields = t.few_fields; few_plans = t.few_plans; stored = k.are-stored; sound = k.are-sound; fielded = k.are-fielded; sizes = k.have-sizes; formed = k.are-formed }
 
   same-room : fits (model_of t).used one_node ≡ roomy (view_in t) one_node
   same-room =

@@ -1,6 +1,6 @@
 -- A node that is to be made, over the tables of a book; cited by src/tables/adding.rt and the crates above.
 --     tree_for t n      the tree that it would be
---     present t n      whether what it names is there: question 1
+--     present t n, well_placed t n      whether what it names is there: question 1; and no total stands in a Projection: question 4
 --     node_questions t n      questions 6 to 9 with their answers
 --     NodeStored t n r m, NodeMade t n r m      the book with it; what making it comes to
 use Rattle.std.specs.Prelude.{◌≡◌, ℕ, Bool, List, [], ◌∷◌, ◌++◌, Some, None, Ok, Err, Result}
@@ -12,7 +12,7 @@ use Rattle.plan.specs.Calls.{node_outlay}
 use Rattle.plan.specs.declared.fault.Fault.{Fault}
 use Rattle.plan.specs.declared.fault.Question.TheVariants.{Space as SpaceQuestion}
 use Rattle.entries.specs.declared.node.PlanId.{PlanId}
-use Rattle.stored.specs.Making.{tree_over, present_in, inputs_for, entries_for, bytes_for}
+use Rattle.stored.specs.Making.{tree_over, present_in, well_placed_in, inputs_for, entries_for, bytes_for}
 use Rattle.stored.specs.declared.node.NewNode.{NewNode}
 use Rattle.tables.specs.Holding.{view_in, trees_in, model_of, plan_count}
 use Rattle.tables.specs.declared.tables.Tables.{Tables}
@@ -23,6 +23,9 @@ tree_for t n = tree_over (view_in t) (plan_count t) (trees_in t) n
 -- the same of the tables of a book
 abbrev pub present : Tables → NewNode → Bool
 present t n = present_in (view_in t) (plan_count t) n
+
+abbrev pub well_placed : Tables → NewNode → Bool
+well_placed t n = well_placed_in (view_in t) n
 
 -- the places that it takes
 abbrev pub outlay_for : Tables → NewNode → Space

@@ -3,7 +3,7 @@
 use Rattle.std.specs.Prelude.{◌≡◌, ℕ, ◌≤◌, true, slice_index_or}
 use Rattle.plan.specs.Plans.{plan_size_of}
 use Rattle.plan.specs.Model.{no_node, inputs_at}
-use Rattle.stored.specs.Stored.{fields_in, run_in, build_plan_node, node_inputs, inside_node, accepted_node}
+use Rattle.stored.specs.Stored.{fields_in, run_in, build_plan_node, node_inputs, inside_node, accepted_node, well_formed}
 use Rattle.tables.specs.Holding.{view_in, nodes_of, trees_in, tree_in, fields_at, model_of}
 use Rattle.stored.specs.declared.node.PlanRecord.{PlanRecord}
 use Rattle.tables.specs.declared.tables.Tables.{Tables}
@@ -20,3 +20,4 @@ pub record ReadsAs (t : Tables) (p : ℕ) (r : PlanRecord) : Type 0 where
   pub origin : r.origin.0 ≡ (slice_index_or (nodes_of t) p no_node).origin
   pub older : r.origin.0 ≤ p
   pub small : r.size ≤ 64
+  pub formed : well_formed (view_in t).functions (tree_in t p) ≡ true

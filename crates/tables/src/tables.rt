@@ -1,5 +1,5 @@
 //! The five tables of a book; the methods stand below, so that they can cite `specs/Holding.antt`.
-ghost use Rattle.stored.specs.Stored.{fielded, plan_trees, small_numbers, sound_plans};
+ghost use Rattle.stored.specs.Stored.{fielded, plan_trees, sound_plans, well_formed};
 ghost use Rattle.plan.specs.Fields.{every};
 ghost use Rattle.plan.specs.Plans.{plan_size_of};
 ghost use Rattle.entries.specs.Spans.{stored_in};
@@ -30,5 +30,5 @@ pub struct Tables {
     ghost sound: { sound_plans (view_of terms) fields plans ≡ true },
     ghost fielded: { fielded (view_of terms) fields plans ≡ true },
     ghost sizes: { map (λ r. r.size) plans ≡ map plan_size_of (plan_trees (view_of terms) fields plans) },
-    ghost numbered: { every small_numbers (plan_trees (view_of terms) fields plans) ≡ true },
+    ghost formed: { every (well_formed (view_of terms).functions) (plan_trees (view_of terms) fields plans) ≡ true },
 }

@@ -20,6 +20,7 @@ impl Extractor {
         requires present { e.0 < count terms.now }
         ensures value { option_map generated result ≡ entered (tree_of terms.now e.0) (entries_of (view_of terms.now) self.now) }
         ensures number { MatchOption result ⊤ (λ alias. countable alias ≡ true) }
+        ensures earlier { MatchOption result ⊤ (λ alias. alias < self.now.next) }
     {
         for held in self.entries.as_slice() {
             if same_expr(terms, held.inner, e) {

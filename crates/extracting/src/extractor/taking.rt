@@ -32,6 +32,7 @@ impl Extractor {
         requires inside { Inside (view_in tables.old) self.old }
         requires few { length self.old.entries ≤ length (view_in tables.old).trees }
         requires number { countable alias ≡ true }
+        requires earlier { alias < self.old.next }
         ensures answer { Answered tables.old (reference_tree (unqualified_field (generated alias)), renewed (extractor_of (view_in tables.old) self.old)) result tables.new self.new }
         ensures begins { TablesBegin tables.old tables.new }
     {

@@ -4,7 +4,7 @@ ghost use Rattle.tables.specs.Begun.{TablesBegin};
 ghost use Rattle.tables.specs.Drafting.{ShownDraft};
 ghost use Rattle.tables.specs.Holding.{model_of, view_in};
 ghost use Rattle.stored.specs.Making.{bounded, well_named};
-ghost use Rattle.tables.specs.Making.{NodeStored, outlay_for, present, tree_for};
+ghost use Rattle.tables.specs.Making.{NodeStored, outlay_for, present, tree_for, well_placed};
 ghost use Rattle.plan.specs.Model.{fits};
 ghost use Rattle.plan.specs.Plans.{plan_size_of};
 ghost use Rattle.plan.specs.Questions.{limited};
@@ -23,6 +23,7 @@ impl Tables {
         requires present { present self.old node ≡ true }
         requires bounded { bounded node ≡ true }
         requires named { well_named node ≡ true }
+        requires placed { well_placed self.old node ≡ true }
         requires limited { limited (view_in self.old).functions (tree_for self.old node) ≡ true }
         requires room { fits (model_of self.old).used (outlay_for self.old node) ≡ true }
         requires size { size ≡ plan_size_of (tree_for self.old node) }

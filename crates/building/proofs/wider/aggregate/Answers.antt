@@ -27,6 +27,7 @@ make-requires c =
       present = sym c.has_lists.ensures ∙ c.in_ok-ask.ensures;
       bounded = (and_parts (leb (length gs) 16 && leb (length us) 16) _ (sym c.are_few.ensures ∙ c.in_ok-ask-2.ensures)).0;
       named = refl;
+      placed = refl;
     }
 
 pub returns : goal.returns

@@ -21,6 +21,7 @@ make-requires c =
       present = sym c.has_inputs.ensures ∙ c.in_ok-ask.ensures;
       bounded = subst (λ n. between 1 8 n ≡ true) (length-map ps (λ p. p.0)) (and_parts (between 1 8 (length (input_numbers ps))) _ (sym c.are_alike.ensures ∙ c.in_ok-ask-2.ensures)).0;
       named = refl;
+      placed = refl;
     }
 
 pub returns : goal.returns

@@ -8,9 +8,10 @@ use Rattle.plan.specs.Terms.{Expr, Field, size_of}
 use Rattle.plan.specs.Functions.{Functions}
 use Rattle.terms.specs.Acceptance.{acceptable}
 use Rattle.entries.specs.Spans.{stored_field}
-use Rattle.tables.specs.Holding.{view_in}
+use Rattle.tables.specs.Holding.{model_of, view_in}
 use Rattle.lexicon.proofs.Frames.{every-at}
 use Rattle.extracting.proofs.Built.{reused-built}
+use Rattle.extracting.proofs.Numbers.{alias-number}
 use Rattle.extracting.proofs.rebuilding.realias.Goals as goal
 
 -- what an alias that is accepted says of its name and of its size
@@ -35,4 +36,6 @@ pub returns-clause-answer : goal.returns-clause-answer
 returns-clause-answer c =
     let t = c.args.tables.now in
     let v = view_in t in
-    reused-built t c.alias_as.new.self (alias (expr_in v.trees c.args.made.0) (stored_field v.bytes c.args.field)) c.alias_as.result c.alias_as.ensures.answer
+    let f = stored_field v.bytes c.args.field in
+    let low = alias-number (model_of t) c.args.e.0 c.args.made.0 (expr_in v.trees c.args.inner.0) f c.requires.tree in
+    reused-built t c.alias_as.new.self (alias (expr_in v.trees c.args.made.0) f) c.alias_as.result low c.alias_as.ensures.answer

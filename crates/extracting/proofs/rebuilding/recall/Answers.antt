@@ -37,4 +37,4 @@ returns-clause-answer c =
     let n : length us ≡ length ns = omega (arith, length-map (numbers_of c.args.given.now) (expr_in v.trees), length-map c.args.given.now (λ e. e.0), k, c.requires.count) in
     let small = le-leb (sizes_of (arguments (exprs_in v.trees ns)) + 1) 256 (omega (arith, leb-true (sizes_of (arguments us) + 1) 256 p.1, c.requires.small)) in
     let b = call-built t c.call.new.self f ns c.call.result c.requires.made (sym (ap (arity_is (function_at v.functions f)) n) ∙ p.0) c.requires.totals small c.call.ensures.answer in
-    subst (λ j. BuiltBy t (space 1 0 j 0 0) (call f (arguments (exprs_in v.trees ns))) c.call.result c.call.new.self) k b
+    subst (λ j. BuiltBy t (space 1 0 j 0 0) 0 (call f (arguments (exprs_in v.trees ns))) c.call.result c.call.new.self) k b

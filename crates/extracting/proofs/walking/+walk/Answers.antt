@@ -1,4 +1,4 @@
-use Rattle.std.proofs.Common.{◌≡◌, ◌≤◌, List, Err, length, option_map, sym, refl, ap, ap₂, ◌∙◌, subst, arith, rules}
+use Rattle.std.proofs.Common.{◌≡◌, ◌≤◌, false, List, Err, length, option_map, sym, refl, ap, ap₂, ◌∙◌, subst, arith, rules}
 use Rattle.names.specs.Spans.{word}
 use Rattle.plan.specs.Fields.{any}
 use Rattle.plan.specs.Functions.{is_total}
@@ -6,7 +6,7 @@ use Rattle.plan.specs.Model.{expr_in, exprs_in, space}
 use Rattle.plan.specs.Names.{prefixed}
 use Rattle.plan.specs.Terms.{arguments, size_of, sizes_of}
 use Rattle.plan.specs.Terms.Expr.{alias, call}
-use Rattle.rewriting.specs.Routing.{noted}
+use Rattle.rewriting.specs.Routing.{entered, noted}
 use Rattle.routing.specs.Sides.{side_of}
 use Rattle.tables.specs.Holding.{model_of, nodes_of, view_in}
 use Rattle.table.specs.Contents.{part}
@@ -16,15 +16,17 @@ use Rattle.entries.specs.Spans.{stored_field}
 use Rattle.entries.specs.declared.node.ExprId.{ExprId}
 use Rattle.terms.specs.Views.{numbers_of, view_of}
 use Rattle.entries.specs.declared.node.ExprNode.TheVariants.{Alias, Call, Constant, Reference}
-use Rattle.extracting.specs.Extractors.{Inside, extractor_of}
+use Rattle.extracting.specs.Extractors.{Inside, entries_of, extractor_of}
 use Rattle.extracting.specs.Owners.{owner_by}
 use Rattle.extracting.specs.Walking.{Answered, BuiltBy, walk_in}
 use Rattle.extracting.proofs.Growing.{grows-at-once, longer, tree-stays}
 use Rattle.extracting.proofs.Cases.{at-alias, at-constant, at-prefixed, at-reference, at-taken, field-stays, inner-lower, inputs-stay, inside-here, kept, name-stored, tree-here}
-use Rattle.extracting.proofs.Rewritten.{walk-small}
+use Rattle.extracting.proofs.Moving.{given-back}
+use Rattle.extracting.proofs.Numbers.{numbered-here}
+use Rattle.extracting.proofs.Rewritten.{added-new, walk-small}
 use Rattle.extracting.proofs.Spaces.{within-same}
 use Rattle.extracting.proofs.Steps.{alias-refused, alias-step}
-use Rattle.extracting.proofs.Turns.{call-here, finished, lower, made-no-total, made-same, made-small, needed, refused, turn}
+use Rattle.extracting.proofs.Turns.{call-here, call-kept, finished, lower, made-no-total, made-same, made-small, needed, refused, turn}
 use Rattle.extracting.proofs.walking.+walk.Goals as goal
 
 abbrev first : ExprId
@@ -55,6 +57,7 @@ returns-in-Reference-clause-answer n c =
       inside = subst (λ m. Inside (view_of m) y) c.terms-in-Reference.ensures c.noted.ensures.inside;
       few = omega (arith, c.requires.few, ap length c.noted.ensures.entries);
       grows = grows-at-once (model_of t);
+      numbers = numbered-here (model_of t) (walk_in t c.args.inputs (expr_in (view_in t).trees c.args.e.0) (extractor_of (view_in t) x)).1.next;
       spent = within-same _ _;
     }
 
@@ -149,9 +152,22 @@ returns-in_ok-made-in-Alias-clause-answer n c =
     let a = c.in_ok-made-in-Alias.ensures.answer in
     let w = walk_in t c.args.inputs (expr_in (view_in t).trees i.0) (extractor_of (view_in t) x) in
     let k = (field-stays t u a.grows f (name-stored t c.args.e.0 i f inside)).0 in
-    let b = subst (λ z. BuiltBy u (space 1 0 0 0 0) z c.realias.result c.realias.new.tables) (ap₂ alias a.tree k) c.realias.ensures.answer in
+    let kept = λ (q : w.1.new ≡ false). c.realias.ensures.kept (c.in_ok-made-in-Alias.ensures.kept q) in
+    let b = subst (λ z. BuiltBy u (space 1 0 0 0 0) 0 z c.realias.result c.realias.new.tables) (ap₂ alias a.tree k) c.realias.ensures.answer in
     subst (λ z. Answered t z c.realias.result c.realias.new.tables c.walk.new.extractor) (sym h)
-    (alias-step t u c.realias.new.tables c.walk.new.extractor w c.in_ok-made-in-Alias.made.0 a (stored_field (view_in t).bytes f) c.realias.result b)
+    (alias-step t u c.realias.new.tables c.walk.new.extractor w c.in_ok-made-in-Alias.made.0 a (stored_field (view_in t).bytes f) c.args.e c.realias.result kept b)
+
+pub returns-in_ok-made-in-Alias-clause-kept : goal.returns-in_ok-made-in-Alias-clause-kept
+returns-in_ok-made-in-Alias-clause-kept n c =
+    let t = c.args.tables.now in
+    let x = c.args.extractor.now in
+    let i = c.in-Alias.inner in
+    let f = c.in-Alias.field in
+    let tree = tree-here t c.terms.result.now c.terms.ensures c.args.e.0 (Alias i f) c.in-Alias.ensures.tree c.in-Alias.ensures.inside in
+    let is = c.if-is_prefixed.ensures ∙ ap prefixed (c.word.ensures ∙ ap (λ m. word (view_of m).bytes f.name) c.terms-in-Alias.ensures) in
+    let h = at-alias t c.args.inputs c.args.e.0 x i f tree (sym is) in
+    let new = (walk_in t c.args.inputs (expr_in (view_in t).trees c.args.e.0) (extractor_of (view_in t) x)).1.new in
+    given-back c.realias.result c.args.e new (λ q. c.realias.ensures.kept (c.in_ok-made-in-Alias.ensures.kept (sym (ap (λ w. w.1.new) h) ∙ q)))
 
 pub add_extracted-requires-clause-needed : goal.add_extracted-requires-clause-needed
 add_extracted-requires-clause-needed n c =
@@ -170,6 +186,19 @@ returns-in-Some-clause-answer n c =
     let tree = tree-here t c.terms.result.now c.terms.ensures c.args.e.0 (Call f r) c.in-Call.ensures.tree c.in-Call.ensures.inside in
     let h = at-taken t c.args.inputs c.args.e.0 c.args.extractor.now (side_of c.in-Some.side) f r tree c.in-Some.ensures in
     subst (λ z. Answered t z c.add_extracted.result c.add_extracted.new.tables c.add_extracted.new.self) (sym h) c.add_extracted.ensures.answer
+
+pub returns-in-Some-clause-kept : goal.returns-in-Some-clause-kept
+returns-in-Some-clause-kept n c =
+    let t = c.args.tables.now in
+    let x = c.args.extractor.now in
+    let s = side_of c.in-Some.side in
+    let f = c.in-Call.function in
+    let r = c.in-Call.arguments in
+    let e = expr_in (view_in t).trees c.args.e.0 in
+    let tree = tree-here t c.terms.result.now c.terms.ensures c.args.e.0 (Call f r) c.in-Call.ensures.tree c.in-Call.ensures.inside in
+    let h = at-taken t c.args.inputs c.args.e.0 x s f r tree c.in-Some.ensures in
+    let new = ap (λ w. w.1.new) h ∙ added-new s e (extractor_of (view_in t) x) (entered e (entries_of (view_in t) x)) in
+    given-back c.add_extracted.result c.args.e (walk_in t c.args.inputs e (extractor_of (view_in t) x)).1.new (λ q. cc (new, q))
 
 pub arguments_of-given-requires-clause-few : goal.arguments_of-given-requires-clause-few
 arguments_of-given-requires-clause-few n c =
@@ -235,7 +264,7 @@ loop-argument-preserved n c =
     let u = c.loop-argument.tables in
     let y = c.loop-argument.extractor in
     let k = c.loop-argument.invariant in
-    turn t c.args.inputs e f r given x tree inside given-is c.requires.present c.in_default.ensures u y c.loop-argument.made i c.loop-argument.same k c.loop-argument-test.true first c.walk-in-loop-argument.new.tables c.walk-in-loop-argument.new.extractor c.in_ok-part-in-Call.part c.in_ok-part-in-Call.ensures.answer
+    turn t c.args.inputs e f r given x tree inside given-is c.requires.present c.in_default.ensures u y c.loop-argument.made i c.loop-argument.same k c.loop-argument-test.true first c.walk-in-loop-argument.new.tables c.walk-in-loop-argument.new.extractor c.in_ok-part-in-Call.part c.in_ok-part-in-Call.ensures.answer c.in_ok-part-in-Call.ensures.kept
     c.push.new.self c.push.ensures c.in_ok-part-in-Call.ensures.begins c.still_same-same.result c.still_same-same.ensures
 
 pub recall-requires-clause-tree : goal.recall-requires-clause-tree
@@ -323,5 +352,22 @@ returns-after-loop-argument-clause-answer n c =
     let u = c.loop-argument.tables in
     let y = c.loop-argument.extractor in
     let k = c.loop-argument.invariant in
-    finished t c.args.inputs e f r given x tree inside given-is c.requires.present c.in_default.ensures u y c.loop-argument.made i c.loop-argument.same k c.loop-argument-test.false c.recall.new.tables c.recall.result
-    (subst (λ (l : List ExprId). BuiltBy u (space 1 0 (length l) 0 0) (call f (arguments (exprs_in (view_in u).trees (numbers_of l)))) c.recall.result c.recall.new.tables) c.as_slice-in-Call.ensures c.recall.ensures.answer)
+    finished t c.args.inputs e f r given x tree inside given-is c.requires.present c.in_default.ensures u y c.loop-argument.made i c.loop-argument.same k c.loop-argument-test.false c.recall.new.tables c.args.e c.recall.result c.recall.ensures.kept
+    (subst (λ (l : List ExprId). BuiltBy u (space 1 0 (length l) 0 0) 0 (call f (arguments (exprs_in (view_in u).trees (numbers_of l)))) c.recall.result c.recall.new.tables) c.as_slice-in-Call.ensures c.recall.ensures.answer)
+
+pub returns-after-loop-argument-clause-kept : goal.returns-after-loop-argument-clause-kept
+returns-after-loop-argument-clause-kept n c =
+    let t = c.args.tables.now in
+    let e = c.args.e.0 in
+    let f = c.in-Call.function in
+    let r = c.in-Call.arguments in
+    let tree = tree-here t c.terms.result.now c.terms.ensures e (Call f r) c.in-Call.ensures.tree c.in-Call.ensures.inside in
+    let inside = inside-here t c.terms.result.now c.terms.ensures e (Call f r) c.in-Call.ensures.tree c.in-Call.ensures.inside in
+    let x = c.args.extractor.now in
+    let given = c.as_slice-argument-items.result.now in
+    let given-is = ap numbers_of c.as_slice-argument-items.ensures ∙ c.arguments_of-given.ensures ∙ ap (λ m. numbers_in (view_of m).entries r.first r.count) c.terms-in-Call.ensures in
+    let i = c.loop-argument.argument-index in
+    let u = c.loop-argument.tables in
+    let y = c.loop-argument.extractor in
+    let k = c.loop-argument.invariant in
+    call-kept t c.args.inputs e f r given x tree inside given-is c.requires.present c.in_default.ensures u y c.loop-argument.made i c.loop-argument.same k c.loop-argument-test.false c.args.e c.recall.result c.recall.ensures.kept

@@ -7,7 +7,7 @@ use Rattle.extracting.specs.Extractors.{extractor_of}
 use Rattle.extracting.specs.Walking.{AnsweredAll, walks_in}
 use Rattle.extracting.proofs.Cases.{inputs-stay}
 use Rattle.extracting.proofs.Growing.{longer}
-use Rattle.extracting.proofs.Lists.{all-walked, refused, there, turn}
+use Rattle.extracting.proofs.Lists.{all-kept, all-walked, refused, there, turn}
 use Rattle.extracting.proofs.walking.routing_extract_all.Goals as goal
 
 abbrev first : ExprId
@@ -51,7 +51,7 @@ loop-e-preserved c =
     let i = c.loop-e.e-index in
     let k = c.loop-e.invariant.partly in
     record {
-      partly = turn t c.args.inputs c.args.list.now x c.requires.present u y c.loop-e.made i k c.loop-e-test.true first c.routing_extract.new.tables c.routing_extract.new.extractor c.in_ok-part.part c.in_ok-part.ensures.answer c.push.new.self c.push.ensures c.in_ok-part.ensures.begins;
+      partly = turn t c.args.inputs c.args.list.now x c.requires.present u y c.loop-e.made i k c.loop-e-test.true first c.routing_extract.new.tables c.routing_extract.new.extractor c.in_ok-part.part c.in_ok-part.ensures.answer c.in_ok-part.ensures.kept c.push.new.self c.push.ensures c.in_ok-part.ensures.begins;
       columns = c.in_ok-part.ensures.columns;
     }
 
@@ -64,3 +64,13 @@ returns-clause-answer c =
     let i = c.loop-e.e-index in
     let k = c.loop-e.invariant.partly in
     all-walked t c.args.inputs c.args.list.now x c.requires.present u y c.loop-e.made i k c.loop-e-test.false
+
+pub returns-clause-kept : goal.returns-clause-kept
+returns-clause-kept c =
+    let t = c.args.tables.now in
+    let x = c.args.extractor.now in
+    let u = c.loop-e.tables in
+    let y = c.loop-e.extractor in
+    let i = c.loop-e.e-index in
+    let k = c.loop-e.invariant.partly in
+    all-kept t c.args.inputs c.args.list.now x c.requires.present u y c.loop-e.made i k c.loop-e-test.false

@@ -1,4 +1,4 @@
-use Rattle.std.proofs.Common.{false, drop}
+use Rattle.std.proofs.Common.{not, drop}
 use Rattle.plan.specs.Model.{exprs_in}
 use Rattle.rewriting.specs.Routing.{routing_extract_all}
 use Rattle.tables.specs.Holding.{nodes_of, view_in}
@@ -17,6 +17,6 @@ invariant-loop-e l =
     let own = owner_by F (nodes_of t) l.inputs in
     let ts = exprs_in v.trees (numbers_of l.list) in
     record {
-      partly : Partly t l.tables l.extractor (routing_extract_all F own ts (extractor_of v l.fn.extractor)) (routing_extract_all F own (drop l.e-index ts) (extractor_of (view_in l.tables) l.extractor)) l.list l.made l.e-index false;
+      partly : Partly t l.tables l.extractor (routing_extract_all F own ts (extractor_of v l.fn.extractor)) (routing_extract_all F own (drop l.e-index ts) (extractor_of (view_in l.tables) l.extractor)) l.list l.made l.e-index (not l.extractor.is_new);
       columns : Columned (columns_by (view_in l.tables).functions (nodes_of l.tables) l.inputs) (needs_of (view_in l.tables) l.extractor);
     }

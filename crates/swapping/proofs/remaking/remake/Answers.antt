@@ -1,4 +1,4 @@
-use Rattle.std.proofs.Common.{◌≡◌, ℕ, ◌<◌, [], ◌∷◌, length, set, Result, refl, ap, ◌∙◌, arith}
+use Rattle.std.proofs.Common.{◌≡◌, ℕ, ◌<◌, [], ◌∷◌, ltb, length, set, Result, sym, refl, ap, ◌∙◌, arith}
 use Rattle.std.proofs.lemmas.Bool.{and_parts}
 use Rattle.plan.specs.Model.{Model, inputs_at}
 use Rattle.plan.specs.Plans.{Plan}
@@ -8,10 +8,10 @@ use Rattle.entries.specs.declared.node.PlanId.{PlanId}
 use Rattle.tables.specs.Holding.{view_in, trees_in, tree_in, fields_at, model_of, plan_count}
 use Rattle.tables.specs.Reading.{ReadsAs}
 use Rattle.swapping.specs.Remaking.{TreeMade}
-use Rattle.stored.specs.Stored.{build_plan_node, node_inputs, run_in, run_numbers}
+use Rattle.stored.specs.Stored.{build_plan_node, list_in, node_inputs, run_in, run_numbers, well_formed}
 use Rattle.stored.specs.declared.node.NewNode.TheVariants.{Filter, Limit}
 use Rattle.stored.specs.declared.node.PlanNode.{PlanNode}
-use Rattle.stored.specs.declared.node.PlanNode.TheVariants.{Union}
+use Rattle.stored.specs.declared.node.PlanNode.TheVariants.{Projection, Union}
 use Rattle.stored.specs.declared.node.PlanRecord.{PlanRecord}
 use Rattle.tables.specs.declared.tables.Tables.{Tables}
 use Rattle.tables.proofs.Inputs.{as-node, run_long}
@@ -31,6 +31,19 @@ remake_union-requires c =
       few = h.accepted;
       position = omega (arith, c.requires.position, ap length h.inputs, run_long (view_in t).entries l in-run.0);
       input = c.requires.input;
+    }
+
+pub remake_projection-requires : goal.remake_projection-requires
+remake_projection-requires c =
+    let t = c.args.tables.now in
+    let l = c.in-Projection.list in
+    let r = c.record_of.ensures in
+    let h = as-node t c.args.p.0 c.record_of.result (Projection c.in-Projection.input l) r c.in-Projection.is in
+    record {
+      input = c.requires.input;
+      list = (and_parts (ltb c.in-Projection.input.0 c.args.p.0) (list_in (view_in t) l) h.inside).1;
+      few = h.accepted;
+      placed = sym (ap (well_formed (view_in t).functions) h.tree) ∙ r.formed;
     }
 
 -- a node with one input

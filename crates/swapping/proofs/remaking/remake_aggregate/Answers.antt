@@ -33,6 +33,7 @@ make-requires c =
       present = and_from _ _ (lt-ltb _ _ c.requires.input) (and_from _ _ (exprs-present v gs _ a c.requires.groups) (exprs-present v us _ b c.requires.totals));
       bounded = and_from _ _ (copy-few v gs expr_of _ a 16 (and_parts (run_in v.entries gs) _ c.requires.groups).0 c.requires.few.0) (copy-few v us expr_of _ b 16 (and_parts (run_in v.entries us) _ c.requires.totals).0 c.requires.few.1);
       named = refl;
+      placed = refl;
     }
 
 pub returns : goal.returns

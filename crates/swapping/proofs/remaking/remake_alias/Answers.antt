@@ -15,7 +15,7 @@ copy_name-own-requires c = omega (arith, ap length (word-lent c.args.tables.now 
 
 pub make-requires : goal.make-requires
 make-requires c =
-    record { present = lt-ltb _ _ c.requires.input; bounded = refl; named = ap good_name (c.as_slice.ensures ∙ c.copy_name-own.ensures ∙ (word-lent c.args.tables.now _ c.terms.ensures c.args.name _ c.word.ensures)) ∙ c.requires.good }
+    record { present = lt-ltb _ _ c.requires.input; bounded = refl; named = ap good_name (c.as_slice.ensures ∙ c.copy_name-own.ensures ∙ (word-lent c.args.tables.now _ c.terms.ensures c.args.name _ c.word.ensures)) ∙ c.requires.good; placed = refl }
 
 pub returns : goal.returns
 returns c =

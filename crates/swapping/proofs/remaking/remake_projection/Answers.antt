@@ -1,6 +1,8 @@
-use Rattle.std.proofs.Common.{map, length, refl, ap, ◌∙◌, arith}
+use Rattle.std.proofs.Common.{not, map, length, refl, ap, ◌∙◌, arith}
 use Rattle.std.proofs.lemmas.Bool.{and_parts, and_from, leb-true, lt-ltb}
 use Rattle.table.proofs.Parts.{length_part}
+use Rattle.plan.specs.Fields.{any}
+use Rattle.plan.specs.Functions.{is_total}
 use Rattle.plan.specs.Plans.Plan.{projection}
 use Rattle.entries.specs.Entries.{expr_of}
 use Rattle.tables.specs.Holding.{view_in, tree_in}
@@ -25,6 +27,7 @@ make-requires c =
       present = and_from _ _ (lt-ltb _ _ c.requires.input) (exprs-present v l _ e c.requires.list);
       bounded = copy-few v l expr_of _ e 64 (and_parts (run_in v.entries l) _ c.requires.list).0 c.requires.few;
       named = refl;
+      placed = ap (λ es. not (any (is_total v.functions) es)) (exprs-copied v l _ e) ∙ c.requires.placed;
     }
 
 pub returns : goal.returns

@@ -25,6 +25,7 @@ make-requires c =
       present = and_from _ _ (lt-ltb _ _ c.requires.input) (keys-present v l _ e c.requires.list);
       bounded = copy-few v l key_of _ e 16 (and_parts (run_in v.entries l) _ c.requires.list).0 c.requires.few;
       named = refl;
+      placed = refl;
     }
 
 pub returns : goal.returns

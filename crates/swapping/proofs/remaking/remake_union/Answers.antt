@@ -42,6 +42,7 @@ make-requires c =
       present = ap (all_below (plan_count t)) x.0 ∙ below_set (plan_count t) (run_numbers (view_in t).entries l) c.args.position c.args.input.0 c.requires.input c.requires.present;
       bounded = ap (between 1 8) x.1 ∙ c.requires.few;
       named = refl;
+      placed = refl;
     }
 
 pub returns : goal.returns

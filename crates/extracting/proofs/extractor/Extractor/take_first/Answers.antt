@@ -1,13 +1,14 @@
-use Rattle.std.proofs.Common.{◌≡◌, ◌≤◌, false, not, ◌||◌, length, None, Err, inl, inr, refl, sym, ap, ap₂, ◌∙◌, subst, arith, rules}
+use Rattle.std.proofs.Common.{◌≡◌, suc, ◌+◌, ◌≤◌, false, not, ◌||◌, length, None, Err, inl, inr, refl, sym, ap, ap₂, ◌∙◌, subst, arith, rules}
 use Rattle.plan.specs.Model.{expr_in}
 use Rattle.plan.specs.Terms.{references_of}
 use Rattle.rewriting.specs.Routing.{add_extracted, needs}
 use Rattle.routing.specs.Sides.{side_of}
-use Rattle.tables.specs.Holding.{view_in}
+use Rattle.tables.specs.Holding.{model_of, view_in}
 use Rattle.terms.specs.Views.{tree_of, view_of}
 use Rattle.extracting.specs.Extractors.{Inside, extractor_of, needs_of}
 use Rattle.extracting.specs.Walking.{Answered}
 use Rattle.extracting.proofs.Growing.{extractor-stays, tree-stays}
+use Rattle.extracting.proofs.Numbers.{numbered-more}
 use Rattle.extracting.proofs.extractor.Extractor.take_first.Goals as goal
 
 pub returns-then-not-is_countable-clause-answer : goal.returns-then-not-is_countable-clause-answer
@@ -21,7 +22,7 @@ returns-in_err-column-clause-answer c =
     let v = view_in t in
     let w = add_extracted (side_of c.args.side) (expr_in v.trees c.args.e.0) (extractor_of v c.args.self.now) None in
     let e : c.from_residual.result ≡ Err c.in_err-column.field-0.0 = search rules in
-    subst (λ r. Answered t w r c.alias_column.new.tables c.args.self.now) (sym e) (inl c.in_err-column.ensures.answer)
+    subst (λ r. Answered t w r c.alias_column.new.tables c.args.self.now) (sym e) (inl (c.in_err-column.ensures.answer, refl))
 
 pub enter-requires-clause-inside : goal.enter-requires-clause-inside
 enter-requires-clause-inside c =
@@ -57,5 +58,6 @@ returns-clause-answer c =
       inside = subst (λ m. Inside (view_of m) y) c.terms.ensures c.enter.ensures.inside;
       few = omega (arith, c.requires.few, c.enter.ensures.entries, c.in_ok-column.ensures.last, b.present);
       grows = b.grows;
+      numbers = numbered-more (model_of t) (model_of u) (x.next + 1) (suc x.next) (omega arith) b.numbers;
       spent = b.spent;
     }

@@ -47,7 +47,7 @@ invariant_of-self c =
     let w = view_of c.place-placed.new.terms in
     let x = c.place-placed.result in
     let st = c.store.ensures.all in
-    let k = added-facts t n c.len.result ds c.requires.draft w x c.place-placed.ensures.placed (c.len.ensures.value ∙ sym (counted t)) (view_of c.store.new.terms) c.store.new.fields st c.requires.limited c.requires.named _ refl _ _ _ c.len-first.ensures.value refl c.requires.size c.push.new.self c.push.ensures in
+    let k = added-facts t n c.len.result ds c.requires.draft w x c.place-placed.ensures.placed (c.len.ensures.value ∙ sym (counted t)) (view_of c.store.new.terms) c.store.new.fields st c.requires.limited c.requires.bounded c.requires.named c.requires.placed _ refl _ _ _ c.len-first.ensures.value refl c.requires.size c.push.new.self c.push.ensures in
     let f = fits-parts (model_of t).used (outlay_for t n) c.requires.room in
     let new : length st.new ≡ length ds = sym (length-map st.new (stored_field (view_of c.store.new.terms).bytes)) ∙ ap length st.fields ∙ length-map ds _ in
     record {
@@ -57,7 +57,7 @@ invariant_of-self c =
       sound = k.are-sound;
       fielded = k.are-fielded;
       sizes = k.have-sizes;
-      numbered = k.are-numbered;
+      formed = k.are-formed;
     }
 
 pub returns-clause-stored : goal.returns-clause-stored
@@ -68,4 +68,4 @@ returns-clause-stored c =
     let w = view_of c.place-placed.new.terms in
     let x = c.place-placed.result in
     let st = c.store.ensures.all in
-    added t n c.len.result ds c.requires.draft w x c.place-placed.ensures.placed (c.len.ensures.value ∙ sym (counted t)) (view_of c.store.new.terms) c.store.new.fields st c.requires.limited c.requires.named _ refl _ _ _ c.len-first.ensures.value refl c.requires.size c.push.new.self c.push.ensures
+    added t n c.len.result ds c.requires.draft w x c.place-placed.ensures.placed (c.len.ensures.value ∙ sym (counted t)) (view_of c.store.new.terms) c.store.new.fields st c.requires.limited c.requires.bounded c.requires.named c.requires.placed _ refl _ _ _ c.len-first.ensures.value refl c.requires.size c.push.new.self c.push.ensures

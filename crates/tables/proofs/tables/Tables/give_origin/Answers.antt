@@ -15,7 +15,7 @@ invariant_of-self c =
     let t = c.args.self.now in
     let rs = t.plans in
     let k = given-facts (view_in t) t.fields rs c.set.new.self c.args.p.0 c.get-held.result c.args.origin (omega (arith, counted t, c.requires.node)) (c.get-held.ensures c.get-held.result) (c.set.ensures ∙ ap (set rs c.args.p.0) c.set_origin.ensures) c.requires.older (facts-in t) in
-    record { few_fields = t.few_fields; few_plans = omega (arith, ap length c.set.ensures ∙ length-set rs c.args.p.0 _, t.few_plans); stored = k.are-stored; sound = k.are-sound; fielded = k.are-fielded; sizes = k.have-sizes; numbered = k.are-numbered }
+    record { few_fields = t.few_fields; few_plans = omega (arith, ap length c.set.ensures ∙ length-set rs c.args.p.0 _, t.few_plans); stored = k.are-stored; sound = k.are-sound; fielded = k.are-fielded; sizes = k.have-sizes; formed = k.are-formed }
 
 pub returns : goal.returns
 returns c =
