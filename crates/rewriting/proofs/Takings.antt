@@ -1,9 +1,9 @@
 -- What walks find is sound, and what extract refuses at a Projection of pairs it refuses by question 8.
 use Rattle.std.proofs.Common.{◌≡◌, ℕ, suc, ◌<◌, ◌≤◌, Bool, true, false, cond, not, ◌||◌, T, eqb, leb, List, [], ◌∷◌, ◌++◌, map, length, Some, None, Option, sym, refl, ap, ◌∙◌, subst, inl, inr, arith, leb→le}
-use Rattle.std.proofs.ByRecursion.{All-append, All-get_or, All-map, All-push}
+use Rattle.std.proofs.ByRecursion.{All-append, All-get_or, All-map, All-push, All-weaker}
 use Rattle.std.specs.List.{AllByRecursion}
 use Rattle.plan.specs.Faults.{fault, first_no}
-use Rattle.plan.specs.Functions.{Functions, is_marked, placement_of}
+use Rattle.plan.specs.Functions.{Functions, is_marked, is_total, placement_of}
 use Rattle.plan.specs.Model.{no_node}
 use Rattle.plan.specs.Names.{Name, most_number, number_of, prefixed}
 use Rattle.plan.specs.Plans.{Key, Plan, fields_of}
@@ -25,7 +25,8 @@ use Rattle.rewriting.proofs.CarryJoins.{known-left, known-right}
 use Rattle.rewriting.proofs.Extracts.{owner-side}
 use Rattle.rewriting.proofs.Limits.{only-limited}
 use Rattle.rewriting.proofs.Made.{aggregate-known, filter-known, join-known, sort-known}
-use Rattle.rewriting.proofs.Splits.{keep-with, owned-one, unalias-known}
+use Rattle.rewriting.proofs.Splits.{keep-with, owned-one, pairs-all, unalias-known}
+use Rattle.rewriting.proofs.Totals.{total-stays}
 use Rattle.rewriting.specs.Extracting.{Outcome, and_then, build_extraction_projection, build_extraction_projection_impl, build_recovery_projection, built, by_place, extract_from_plan, made, made_if, no_change, rebuilt, refused, remade, same_fields, stage_of, when_extractable, when_new}
 use Rattle.rewriting.specs.Generated.{countable, generated, next_number}
 use Rattle.rewriting.specs.Limits.{Below, ExtractIsLimited, OnlyEight, ProjectionsAreLimited, Rising, Sound, Taken, Walks, WalksAreSound, fields_at, is_of_pairs}
@@ -35,17 +36,17 @@ use Rattle.rewriting.specs.Routing.{Entry, Extractor, Pair, Side, add_extracted,
 -- what holds of an extractor after each step of a walk holds after the walk
 module _ (F : Functions) (own : Expr → Option Side) (fs : List Field) (Z : Extractor → Type 0)
     (notes : (s : Side) (r : Field) (g : Extractor) → Known fs (reference r) → own (reference r) ≡ Some s → Z g → Z (noted (Some s) r g))
-    (takes : (s : Side) (e : Expr) (g : Extractor) (o : Option Name) → Known fs e → own e ≡ Some s → Z g → Z (add_extracted s e g o).1) where
+    (takes : (s : Side) (e : Expr) (g : Extractor) (o : Option Name) → Known fs e → own e ≡ Some s → is_marked (placement_of F e) ≡ true → Z g → Z (add_extracted s e g o).1) where
   noted-holds : (o : Option Side) (r : Field) (g : Extractor) → Known fs (reference r) → own (reference r) ≡ o → Z g → Z (noted o r g)
   unfolding noted
   noted-holds None r g k p z = z
   noted-holds (Some s) r g k p z = notes s r g k p z
 
-  taken-holds : (b : Bool) (o : Option Side) (e : Expr) (g : Extractor) (w : Expr × Extractor) → Known fs e → own e ≡ o → Z g → Z w.1 → Z (taken_if b o e g w).1
+  taken-holds : (b : Bool) (o : Option Side) (e : Expr) (g : Extractor) (w : Expr × Extractor) → Known fs e → own e ≡ o → is_marked (placement_of F e) ≡ b → Z g → Z w.1 → Z (taken_if b o e g w).1
   unfolding taken_if
-  taken-holds false o e g w k p z h = h
-  taken-holds true None e g w k p z h = h
-  taken-holds true (Some s) e g w k p z h = takes s e g (entered e g.entries) k p z
+  taken-holds false o e g w k p m z h = h
+  taken-holds true None e g w k p m z h = h
+  taken-holds true (Some s) e g w k p m z h = takes s e g (entered e g.entries) k p m z
 
   mutual
     unfolding routing_extract under_alias under_call
@@ -58,7 +59,7 @@ module _ (F : Functions) (own : Expr → Option Side) (fs : List Field) (Z : Ext
         go : (b : Bool) → Z (routing_extract F own e g).1 → Z (cond b (alias e f, g) (under_alias f (routing_extract F own e g))).1
         go true h = z
         go false h = h
-    walk-holds (call n es) g k z = taken-holds (is_marked (placement_of F (call n es))) (own (call n es)) (call n es) g (under_call n (routing_extracts F own es g)) k refl z (walks-hold es g k z)
+    walk-holds (call n es) g k z = taken-holds (is_marked (placement_of F (call n es))) (own (call n es)) (call n es) g (under_call n (routing_extracts F own es g)) k refl refl z (walks-hold es g k z)
 
     walks-hold : (es : Exprs) (g : Extractor) → Knowns fs es → Z g → Z (routing_extracts F own es g).1
     walks-hold none g k z = z
@@ -73,6 +74,49 @@ module _ (F : Functions) (own : Expr → Option Side) (fs : List Field) (Z : Ext
   unfolding routing_extract_keys
   keys-hold [] g k z = z
   keys-hold (e ∷ es) g k z = keys-hold es (routing_extract F own e.by g).1 k.1 (walk-holds e.by g k.0 z)
+
+-- what is Marked is no total, and so nothing that a walk takes out is one
+marked-plain : (F : Functions) (e : Expr) → is_marked (placement_of F e) ≡ true → is_total F e ≡ false
+marked-plain F (literal v) h = refl
+marked-plain F (reference r) h = refl
+marked-plain F (alias e f) h = marked-plain F e h
+marked-plain F (call n es) h = go (is_total F (call n es)) refl
+  where
+    go : (b : Bool) → is_total F (call n es) ≡ b → b ≡ false
+    go true p = absurd (let q = total-stays F n es (subst T (sym p) tt) in let z : ◌≡◌ {A = ℕ} 0 1 = cc in omega arith)
+    go false p = refl
+
+abbrev pub Plain : Functions → List Entry → Type 0
+Plain F ds = AllByRecursion (λ d. is_total F d.1 ≡ false) ds
+
+module _ (F : Functions) (own : Expr → Option Side) (fs : List Field) where
+  notes-plain : (s : Side) (r : Field) (g : Extractor) → Known fs (reference r) → own (reference r) ≡ Some s → Plain F g.entries → Plain F (noted (Some s) r g).entries
+  unfolding noted
+  notes-plain s r g k p z = z
+
+  takes-plain : (s : Side) (e : Expr) (g : Extractor) (o : Option Name) → Known fs e → own e ≡ Some s → is_marked (placement_of F e) ≡ true → Plain F g.entries → Plain F (add_extracted s e g o).1.entries
+  unfolding add_extracted
+  takes-plain s e g (Some x) k p m z = z
+  takes-plain s e g None k p m z = All-push _ g.entries (s, e, generated g.next) z (marked-plain F e m)
+
+  pub walk-plain : (e : Expr) (g : Extractor) → Known fs e → Plain F g.entries → Plain F (routing_extract F own e g).1.entries
+  walk-plain = walk-holds F own fs (λ g. Plain F g.entries) notes-plain takes-plain
+
+  pub list-plain : (es : List Expr) (g : Extractor) → AllByRecursion (Known fs) es → Plain F g.entries → Plain F (routing_extract_all F own es g).1.entries
+  list-plain = list-holds F own fs (λ g. Plain F g.entries) notes-plain takes-plain
+
+  pub keys-plain : (ks : List Key) (g : Extractor) → AllByRecursion (λ k. Known fs k.by) ks → Plain F g.entries → Plain F (routing_extract_keys F own ks g).1.entries
+  keys-plain = keys-hold F own fs (λ g. Plain F g.entries) notes-plain takes-plain
+
+unalias-plain : (F : Functions) (e : Expr) → is_total F e ≡ false → is_total F (unalias e) ≡ false
+unfolding unalias
+unalias-plain F (literal v) h = h
+unalias-plain F (reference r) h = h
+unalias-plain F (alias e f) h = h
+unalias-plain F (call n es) h = h
+
+pub pairs-plain : (F : Functions) (s : Side) (ds : List Entry) → Plain F ds → AllByRecursion (λ p. is_total F p.0 ≡ false) (pairs_of s ds)
+pairs-plain F s ds h = pairs-all (λ p. is_total F p.0 ≡ false) s ds (All-weaker _ _ (λ d k. unalias-plain F d.1 k) ds h)
 
 -- needed columns
 need-holds : (Q : Side × Field → Type 0) (s : Side) (f : Field) (ns : List (Side × Field)) → Q (s, f) → AllByRecursion Q ns → AllByRecursion Q (need s f ns)
@@ -123,10 +167,10 @@ module _ (own : Expr → Option Side) (fs fl fr : List Field) (owned : (s : Side
   unfolding noted
   notes-taken s r g k p t = record { rising = t.rising; entries = t.entries; needed = need-holds _ s r g.needed (owned s (reference r) k p) t.needed }
 
-  takes-taken : (s : Side) (e : Expr) (g : Extractor) (o : Option Name) → Known fs e → own e ≡ Some s → Taken fl fr n g → Taken fl fr n (add_extracted s e g o).1
+  takes-taken : (F : Functions) (s : Side) (e : Expr) (g : Extractor) (o : Option Name) → Known fs e → own e ≡ Some s → is_marked (placement_of F e) ≡ true → Taken fl fr n g → Taken fl fr n (add_extracted s e g o).1
   unfolding add_extracted countable
-  takes-taken s e g (Some x) k p t = record { rising = t.rising; entries = t.entries; needed = t.needed }
-  takes-taken s e g None k p t = record {
+  takes-taken F s e g (Some x) k p m t = record { rising = t.rising; entries = t.entries; needed = t.needed }
+  takes-taken F s e g None k p m t = record {
     rising = λ f.
         let c = not-full g.full (leb g.next most_number) f in
         rw (map-append (λ (d : Entry). d.2) g.entries ((s, e, generated g.next) ∷ [])) (rising-push n (map (λ d. d.2) g.entries) g.next (leb→le g.next most_number c.1) (t.rising c.0));
@@ -136,9 +180,9 @@ module _ (own : Expr → Option Side) (fs fl fr : List Field) (owned : (s : Side
 
 walks-taken : (F : Functions) (own : Expr → Option Side) (fs fl fr : List Field) → ((s : Side) (e : Expr) → Known fs e → own e ≡ Some s → Known (fields_at fl fr s) e) → Walks F own fs fl fr
 walks-taken F own fs fl fr owned = record {
-  one_walk = λ e n g k t. walk-holds F own fs (Taken fl fr n) (notes-taken own fs fl fr owned n) (takes-taken own fs fl fr owned n) e g k t;
-  all_walks = λ es n g k t. list-holds F own fs (Taken fl fr n) (notes-taken own fs fl fr owned n) (takes-taken own fs fl fr owned n) es g k t;
-  key_walks = λ ks n g k t. keys-hold F own fs (Taken fl fr n) (notes-taken own fs fl fr owned n) (takes-taken own fs fl fr owned n) ks g k t;
+  one_walk = λ e n g k t. walk-holds F own fs (Taken fl fr n) (notes-taken own fs fl fr owned n) (takes-taken own fs fl fr owned n F) e g k t;
+  all_walks = λ es n g k t. list-holds F own fs (Taken fl fr n) (notes-taken own fs fl fr owned n) (takes-taken own fs fl fr owned n F) es g k t;
+  key_walks = λ ks n g k t. keys-hold F own fs (Taken fl fr n) (notes-taken own fs fl fr owned n) (takes-taken own fs fl fr owned n F) ks g k t;
 }
 
 sole-known : (fs : List Field) (s : Side) (e : Expr) → Known fs e → find_sole_input (schema_columns fs) e ≡ Some s → Known (fields_at fs [] s) e

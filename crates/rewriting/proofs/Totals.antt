@@ -38,7 +38,7 @@ use Rattle.rewriting.specs.Outlay.{Tally}
 use Rattle.rewriting.specs.Routing.{Extractor, Side, empty_extractor, find_sole_input, routing_extract, routing_extract_all, routing_extracts, taken_if, under_alias, under_call, schema_columns}
 
 -- a total, with columns for parts of what it takes
-data Head (K : Field → Expr → Type 0) : Expr → Expr → Type 0 where
+pub data Head (K : Field → Expr → Type 0) : Expr → Expr → Type 0 where
   whole : {e : Expr} → Head K e e
   inside : {e e' : Expr} {f : Field} → Head K e e' → Head K (alias e f) (alias e' f)
   taking : {n : ℕ} {es es' : Exprs} → Swaps K es es' → Head K (call n es) (call n es')
@@ -52,7 +52,7 @@ head-mono K K' f whole = whole
 head-mono K K' f (inside h) = inside (head-mono K K' f h)
 head-mono K K' f (taking s) = taking (swaps-more K K' f _ _ s)
 
-abbrev HeadAll : (Field → Expr → Type 0) → List Expr → List Expr → Type 0
+abbrev pub HeadAll : (Field → Expr → Type 0) → List Expr → List Expr → Type 0
 HeadAll K [] [] = Unit {0}
 HeadAll K [] (d ∷ ds) = ⊥
 HeadAll K (c ∷ cs) [] = ⊥
@@ -64,7 +64,7 @@ heads-mono K K' f [] (d ∷ ds) s = absurd s
 heads-mono K K' f (c ∷ cs) [] s = absurd s
 heads-mono K K' f (c ∷ cs) (d ∷ ds) s = (head-mono K K' f s.0, heads-mono K K' f cs ds s.1)
 
-total-stays : (F : Functions) (n : ℕ) (es : Exprs) → T (is_total_rule (rule_in (function_at F n))) → is_marked (placement_of F (call n es)) ≡ false
+pub total-stays : (F : Functions) (n : ℕ) (es : Exprs) → T (is_total_rule (rule_in (function_at F n))) → is_marked (placement_of F (call n es)) ≡ false
 total-stays F n es t = go (rule_in (function_at F n)) t
   where
     go : (r : Rule) → T (is_total_rule r) → is_marked (placed_by r (placements_of F es)) ≡ false
@@ -97,7 +97,7 @@ module _ (F : Functions) (fs : List Field) where
       rw (not_taken (is_marked (placement_of F (call n es))) (find_sole_input (schema_columns fs) (call n es)) (call n es) g (under_call n (routing_extracts F (find_sole_input (schema_columns fs)) es g)) (total-stays F n es t))
       (taking a.0, a.1)
 
-  totals-after : (es : List Expr) (g : Extractor) → AllByRecursion (λ e. T (is_total F e)) es → AllByRecursion (Known fs) es
+  pub totals-after : (es : List Expr) (g : Extractor) → AllByRecursion (λ e. T (is_total F e)) es → AllByRecursion (Known fs) es
       → HeadAll (Held (routing_extract_all F (find_sole_input (schema_columns fs)) es g).1.entries) es (routing_extract_all F (find_sole_input (schema_columns fs)) es g).0 × After (Here fs) g (routing_extract_all F (find_sole_input (schema_columns fs)) es g).1
   unfolding routing_extract_all
   totals-after [] g t k = (tt, after_same (Here fs) g g refl)
@@ -133,7 +133,7 @@ heads-number K [] (d ∷ ds) s = absurd s
 heads-number K (c ∷ cs) [] s = absurd s
 heads-number K (c ∷ cs) (d ∷ ds) s = let p = head-number s.0 in let q = heads-number K cs ds s.1 in cc
 
-head-total : (F : Functions) {K : Field → Expr → Type 0} {e e' : Expr} → Head K e e' → T (is_total F e) → T (is_total F e')
+pub head-total : (F : Functions) {K : Field → Expr → Type 0} {e e' : Expr} → Head K e e' → T (is_total F e) → T (is_total F e')
 head-total F whole t = t
 head-total F (inside h) t = head-total F h t
 head-total F (taking s) t = t
