@@ -59,7 +59,7 @@ fits-no-more u p q a h = no-room u nothing u p q (within-same u nothing) (at-mos
 abbrev pub Spends : (Plan → Tally → Outcome) → Type 0
 Spends f = (p : Plan) (k : Tally) → AtMost k.spent (spent_by (f p k))
 
-spends-then : (o : Outcome) (f : Plan → Tally → Outcome) → Spends f → AtMost (spent_by o) (spent_by (and_then o f))
+pub spends-then : (o : Outcome) (f : Plan → Tally → Outcome) → Spends f → AtMost (spent_by o) (spent_by (and_then o f))
 unfolding and_then
 spends-then (built p k) f h = h p k
 spends-then (no_change k) f h = at-most-same k.spent

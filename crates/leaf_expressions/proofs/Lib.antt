@@ -1,0 +1,2 @@
+mod Spending
+mod Halves
