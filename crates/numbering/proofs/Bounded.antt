@@ -19,8 +19,8 @@ use Rattle.plan.specs.Model.{exprs_in, no_expr, no_node, no_plan, plan_in, plans
 use Rattle.plan.specs.Names.{Name, digit, digits, good_name, most_number, number_of, prefix, read_on}
 use Rattle.plan.specs.Plans.{Plan, fields_of, kept_if, qualified_by, shown, shows_left, shows_right, without_qualifier}
 use Rattle.plan.specs.Plans.Plan.{aggregate, filter, join, limit, projection, sort, subquery_alias, table, union}
-use Rattle.plan.specs.Rendering.{field_of, hex_digit, hex_onto, rendered_all}
-use Rattle.plan.specs.Terms.{Expr, Field, Literal, Qualifier}
+use Rattle.plan.specs.Rendering.{field_of, hex_digit, hex_onto, rendered, rendered_all}
+use Rattle.plan.specs.Terms.{Expr, Exprs, Field, Literal, Qualifier}
 use Rattle.plan.specs.Terms.Expr.{alias, call, literal, reference}
 use Rattle.plan.specs.Terms.Literal.{null, real, text, truth, whole}
 use Rattle.plan.specs.Terms.Qualifier.{qualified, unqualified}
@@ -48,7 +48,7 @@ no-digits true true n = refl
 no-digits true false n = refl
 no-digits false d n = refl
 
-short-none : (n : Name) → length n ≤ 23 → number_of n ≡ 0
+pub short-none : (n : Name) → length n ≤ 23 → number_of n ≡ 0
 short-none n h = go (ltb 23 (length n)) refl
   where
     go : (b : Bool) → ltb 23 (length n) ≡ b → number_of n ≡ 0
@@ -71,7 +71,7 @@ closed-none cs = go (leb 23 (length cs)) refl
         ∙ no-digits (bytes_eq (take 23 (cs ++ 41 ∷ [])) (prefix ++ 95 ∷ [])) (ltb 23 (length (cs ++ 41 ∷ []))) (read_on 0 (drop 23 (cs ++ 41 ∷ [])))
     go false e = short-none (cs ++ 41 ∷ []) (omega (arith, length-append cs (41 ∷ []), leb-false 23 (length cs) e))
 
-hex-long : (k n : ℕ) (acc : List ℕ) → length (hex_onto k n acc) ≡ k + length acc
+pub hex-long : (k n : ℕ) (acc : List ℕ) → length (hex_onto k n acc) ≡ k + length acc
 hex-long zero n acc = omega arith
 hex-long (suc k) n acc = hex-long k (n / 16) (hex_digit (n % 16) ∷ acc) ∙ omega arith
 
@@ -98,15 +98,18 @@ module _ (F : Functions) where
   unfolding field_names
   field-kept f = omega (arith, highest-more f.name (qualifier_names f.qualifier))
 
+  pub call-none : (n : ℕ) (es : Exprs) → number_of (rendered F (call n es)) ≡ 0
+  call-none n es =
+      let e : rendered F (call n es) ≡ (name_in (function_at F n) ++ (40 ∷ rendered_all F es)) ++ 41 ∷ [] = sym (append_assoc (name_in (function_at F n)) (40 ∷ rendered_all F es) (41 ∷ [])) in
+      ap number_of e ∙ closed-none (name_in (function_at F n) ++ (40 ∷ rendered_all F es))
+
   -- its number is that of a name of the expression, or 0
   shown-kept : (e : Expr) → acceptable F e ≡ true → number_of (field_of F e).name ≤ highest 0 (expr_names e)
   unfolding expr_names
   shown-kept (literal v) h = literal-kept v h
   shown-kept (reference f) h = field-kept f
   shown-kept (alias e f) h = omega (arith, highest-append (field_names f) (expr_names e), field-kept f)
-  shown-kept (call n es) h =
-      let e : name_in (function_at F n) ++ (40 ∷ (rendered_all F es ++ (41 ∷ []))) ≡ (name_in (function_at F n) ++ (40 ∷ rendered_all F es)) ++ 41 ∷ [] = sym (append_assoc (name_in (function_at F n)) (40 ∷ rendered_all F es) (41 ∷ [])) in
-      omega (arith, ap number_of e ∙ closed-none (name_in (function_at F n) ++ (40 ∷ rendered_all F es)))
+  shown-kept (call n es) h = omega (arith, call-none n es)
 
   pub all-shown-kept : (es : List Expr) → every (acceptable F) es ≡ true → highest 0 (flat_map shown_name es) ≤ highest 0 (flat_map expr_names es)
   all-shown-kept [] h = omega arith

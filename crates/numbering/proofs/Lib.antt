@@ -2,5 +2,5 @@ mod Digits
 pub mod Highest
 pub mod Places
 mod Capped
-mod Bounded
+pub mod Bounded
 pub mod Kept

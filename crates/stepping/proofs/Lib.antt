@@ -1,2 +1,4 @@
 pub mod Made
 pub mod Chain
+pub mod Rendered
+pub mod Fields
