@@ -1,2 +1,3 @@
 pub mod Made
 pub mod Chain
+pub mod Added
