@@ -1,20 +1,23 @@
 -- From what the steps of an extract leave to what the book promises of it.
-use Rattle.std.proofs.Common.{◌≡◌, ℕ, ◌<◌, true, List, [], ◌∷◌, map, length, get_or, sym, refl, ap, ◌∙◌, subst, ap₂}
+use Rattle.std.proofs.Common.{◌≡◌, ℕ, zero, suc, ◌<◌, true, List, [], ◌∷◌, ◌++◌, map, length, get_or, set, sym, refl, ap, ◌∙◌, subst, ap₂}
 use Rattle.std.proofs.lemmas.Bool.{and_parts, ltb-true}
 use Rattle.std.proofs.lemmas.List.{length-map}
 use Rattle.std.specs.List.{AllByRecursion}
 use Rattle.plan.specs.Calls.{all_below, below, union_of}
-use Rattle.plan.specs.Model.{count_of, inputs_at, no_node, plan_in, plans_in, tree_at}
-use Rattle.plan.specs.Plans.{Plan, further_inputs}
+use Rattle.plan.specs.Functions.{Functions}
+use Rattle.plan.specs.Model.{Model, Node, count_of, inputs_at, no_node, plans_in, tree_at}
+use Rattle.plan.specs.Plans.{Plan, fields_of, further_inputs}
 use Rattle.plan.specs.Swapping.{inputs_of, plan_list}
 use Rattle.plan.specs.Terms.{Field}
 use Rattle.rewriting.specs.Book.{Standing}
+use Rattle.rewriting.specs.Generated.{book_names, highest, list_names, next_number, node_names, plan_names}
 use Rattle.stored.specs.Stored.{build_plan_node, node_inputs, run_numbers}
 use Rattle.stored.specs.declared.node.PlanNode.{PlanNode}
 use Rattle.stored.specs.declared.node.PlanNode.TheVariants.{Aggregate, Filter, Join, Limit, Projection, Sort, SubqueryAlias, Table, Union}
 use Rattle.tables.proofs.Held.{counted}
 use Rattle.tables.proofs.Inputs.{NodeReads, inputs-below, node_at_lem, tree-at}
 use Rattle.tables.specs.Holding.{fields_at, model_of, nodes_of, plan_count, trees_in, view_in}
+use Rattle.tables.specs.Origins.{OriginGiven}
 use Rattle.tables.specs.declared.tables.Tables.{Tables}
 use Rattle.terms.specs.Views.{View}
 
@@ -61,3 +64,16 @@ module _ (t : Tables) where
 
   pub inputs-counted : length (model_of t).inputs ≡ plan_count t
   inputs-counted = length-map t.plans (λ r. node_inputs (view_in t).entries r.node) ∙ sym (counted t)
+
+-- where a node has another origin, the trees are the same, and so all names
+origin-names : (F : Functions) (ns : List Node) (i o : ℕ) → node_names F (set ns i (record { tree = (get_or ns i no_node).tree; origin = o })) ≡ node_names F ns
+unfolding node_names
+origin-names F [] i o = refl
+origin-names F (n ∷ ns) zero o = refl
+origin-names F (n ∷ ns) (suc i) o = ap (λ l. map (λ f. f.name) (fields_of F n.tree) ++ (plan_names n.tree ++ l)) (origin-names F ns i o)
+
+pub same-names : (m m' : Model) (i o : ℕ) → i < count_of m → OriginGiven m i o m' → next_number m' ≡ next_number m
+unfolding next_number book_names
+same-names m m' i o lt g =
+    let nodes : node_names m'.functions m'.plans ≡ node_names m.functions m.plans = ap₂ node_names g.functions g.plans ∙ origin-names m.functions m.plans i o in
+    ap (λ l. suc (highest 99999999 l)) (ap₂ (λ x y. x ++ y) (ap list_names g.exprs) nodes)
