@@ -1,16 +1,19 @@
 -- From what the steps of an extract leave to what the book promises of it.
-use Rattle.std.proofs.Common.{◌≡◌, ℕ, zero, suc, ◌<◌, true, List, [], ◌∷◌, ◌++◌, map, length, get_or, set, sym, refl, ap, ◌∙◌, subst, ap₂}
+use Rattle.std.proofs.Common.{◌≡◌, ℕ, zero, suc, ◌+◌, ◌<◌, ◌≤◌, true, List, [], ◌∷◌, ◌++◌, map, length, get_or, set, sym, refl, ap, ◌∙◌, subst, ap₂, append_assoc, not-suc-le-zero, length-append, length-set, get_or-append-add, arith}
 use Rattle.std.proofs.lemmas.Bool.{and_parts, ltb-true}
-use Rattle.std.proofs.lemmas.List.{length-map}
+use Rattle.std.proofs.lemmas.List.{get_or_append_left, length-map, length_push, set_at}
 use Rattle.std.specs.List.{AllByRecursion}
 use Rattle.plan.specs.Calls.{all_below, below, union_of}
 use Rattle.plan.specs.Functions.{Functions}
-use Rattle.plan.specs.Model.{Model, Node, count_of, inputs_at, no_node, plans_in, tree_at}
+use Rattle.plan.specs.Model.{Model, Node, Space, count_of, inputs_at, no_node, plans_in, tree_at}
 use Rattle.plan.specs.Plans.{Plan, fields_of, further_inputs}
 use Rattle.plan.specs.Swapping.{inputs_of, plan_list}
 use Rattle.plan.specs.Terms.{Field}
-use Rattle.rewriting.specs.Book.{Standing}
+use Rattle.rows.specs.Standing.{Good}
+use Rattle.rewriting.specs.Book.{Added, Helpers, Standing}
 use Rattle.rewriting.specs.Generated.{book_names, highest, list_names, next_number, node_names, plan_names}
+use Rattle.rewriting.specs.Outlay.{Tally}
+use Rattle.stepping.specs.Steps.{AllGood, Extends, Stood}
 use Rattle.stored.specs.Stored.{build_plan_node, node_inputs, run_numbers}
 use Rattle.stored.specs.declared.node.PlanNode.{PlanNode}
 use Rattle.stored.specs.declared.node.PlanNode.TheVariants.{Aggregate, Filter, Join, Limit, Projection, Sort, SubqueryAlias, Table, Union}
@@ -77,3 +80,100 @@ unfolding next_number book_names
 same-names m m' i o lt g =
     let nodes : node_names m'.functions m'.plans ≡ node_names m.functions m.plans = ap₂ node_names g.functions g.plans ∙ origin-names m.functions m.plans i o in
     ap (λ l. suc (highest 99999999 l)) (ap₂ (λ x y. x ++ y) (ap list_names g.exprs) nodes)
+
+-- a list that is not empty has a last item
+last-split : {X : Type 0} (xs : List X) → 0 < length xs → (ys : List X) × (x : X) × (xs ≡ ys ++ x ∷ [])
+last-split [] lt = absurd (not-suc-le-zero lt)
+last-split (x ∷ []) lt = ([], x, refl)
+last-split (x ∷ y ∷ xs) lt =
+    let h = last-split (y ∷ xs) (omega arith) in
+    (x ∷ h.0, h.1, ap (λ l. x ∷ l) h.2)
+
+all-from : {X : Type 0} (P : X → Type 0) (d : X) (xs : List X) → ((i : ℕ) → i < length xs → P (get_or xs i d)) → AllByRecursion P xs
+all-from P d [] f = tt
+all-from P d (x ∷ xs) f = (f 0 (omega arith), all-from P d xs (λ i lt. f (suc i) (omega arith)))
+
+-- the node r is the last, behind those of s, and was given the origin o
+module _ (s : Model) (t t' : Tables) (u : Space) (R : Plan) (r o : ℕ) (k : Tally)
+    (good : AllGood s) (counts : length s.inputs ≡ count_of s) (stood : Stood s u R r k (model_of t)) (old : count_of s ≤ r) (last : r + 1 ≡ plan_count t) (given : OriginGiven (model_of t) r o (model_of t')) where
+  abbrev m : Model
+  m = model_of t
+
+  abbrev m' : Model
+  m' = model_of t'
+
+  abbrev e : Extends s m
+  e = stood.extends
+
+  abbrev answer : Node
+  answer = record { tree = R; origin = o }
+
+  count-new : plan_count t ≡ count_of s + length e.nodes
+  count-new = ap length e.plans ∙ length-append s.plans e.nodes
+
+  count-same : plan_count t' ≡ plan_count t
+  count-same = ap length given.plans ∙ length-set m.plans r (record { tree = tree_at m r; origin = o })
+
+  inputs-new : length e.inputs.more ≡ length e.nodes
+  inputs-new = let a = ap length e.inputs.is ∙ length-append s.inputs e.inputs.more in omega (arith, inputs-counted t, count-new, counts)
+
+  nodes-last : (ns : List Node) × (x : Node) × (e.nodes ≡ ns ++ x ∷ [])
+  nodes-last = last-split e.nodes (omega (arith, count-new, old, last))
+
+  inputs-last : (ns : List (List ℕ)) × (is : List ℕ) × (e.inputs.more ≡ ns ++ is ∷ [])
+  inputs-last = last-split e.inputs.more (omega (arith, count-new, inputs-new, old, last))
+
+  nodes-long : length e.nodes ≡ length nodes-last.0 + 1
+  nodes-long = ap length nodes-last.2 ∙ length_push nodes-last.0 nodes-last.1
+
+  inputs-long : length e.inputs.more ≡ length inputs-last.0 + 1
+  inputs-long = ap length inputs-last.2 ∙ length_push inputs-last.0 inputs-last.1
+
+  place : r ≡ count_of s + length nodes-last.0
+  place = omega (arith, count-new, nodes-long, last)
+
+  -- one of the helpers
+  helper-at : (j : ℕ) → j < length nodes-last.0 → get_or nodes-last.0 j no_node ≡ get_or e.nodes j no_node
+  helper-at j lt = sym (ap (λ (l : List Node). get_or l j no_node) nodes-last.2 ∙ get_or_append_left nodes-last.0 (nodes-last.1 ∷ []) no_node j lt)
+
+  node-behind : (j : ℕ) → get_or m.plans (count_of s + j) no_node ≡ get_or e.nodes j no_node
+  node-behind j = ap (λ (l : List Node). get_or l (count_of s + j) no_node) e.plans ∙ get_or-append-add s.plans e.nodes j no_node
+
+  helper-good : (j : ℕ) → j < length nodes-last.0 → Good s.functions (get_or nodes-last.0 j no_node).tree
+  helper-good j lt =
+      let all : Good m.functions (tree_at m (count_of s + j)) = e.good good (count_of s + j) (omega (arith, count-new, nodes-long)) in
+      let here : Good s.functions (tree_at m (count_of s + j)) = subst (λ F. Good F (tree_at m (count_of s + j))) e.functions all in
+      subst (λ (n : Node). Good s.functions n.tree) (node-behind j ∙ sym (helper-at j lt)) here
+
+  helpers-there : Helpers s nodes-last.0 inputs-last.0
+  helpers-there = record {
+    long = omega (arith, nodes-long, inputs-long, inputs-new);
+    origins = λ j lt. ap (λ (n : Node). n.origin) (helper-at j lt) ∙ e.origins j (omega (arith, nodes-long));
+    good = all-from (λ n. Good s.functions n.tree) no_node nodes-last.0 helper-good;
+  }
+
+  plans-new : m'.plans ≡ s.plans ++ (nodes-last.0 ++ answer ∷ [])
+  plans-new =
+      let hs = nodes-last.0 in
+      let x = nodes-last.1 in
+      let all : m.plans ≡ (s.plans ++ hs) ++ x ∷ [] = e.plans ∙ ap (λ l. s.plans ++ l) nodes-last.2 ∙ sym (append_assoc s.plans hs (x ∷ [])) in
+      let long : length (s.plans ++ hs) ≡ r = length-append s.plans hs ∙ sym place in
+      given.plans ∙ ap (λ p. set m.plans r (record { tree = p; origin = o })) stood.tree ∙ ap (λ l. set l r answer) all
+      ∙ set_at (s.plans ++ hs) x [] answer r long ∙ append_assoc s.plans hs (answer ∷ [])
+
+  pub stood-added : Added s R o r m'
+  stood-added = record {
+    helpers = nodes-last.0;
+    numbers = inputs-last.0;
+    theirs = helpers-there;
+    own = inputs-last.1;
+    exprs = e.exprs.more;
+    text = e.text.more;
+    number = place;
+    functions_same = given.functions ∙ e.functions;
+    exprs_longer = given.exprs ∙ e.exprs.is;
+    plans_longer = plans-new;
+    inputs_longer = given.inputs ∙ e.inputs.is ∙ ap (λ l. s.inputs ++ l) inputs-last.2;
+    text_longer = given.text ∙ e.text.is;
+    stand = λ j le lt. standing t' j lt;
+  }
