@@ -4,13 +4,15 @@ use Rattle.std.proofs.lemmas.Bool.{and_parts, ltb-true}
 use Rattle.std.proofs.lemmas.List.{get_or_append_left, length-map, length_push, set_at}
 use Rattle.std.specs.List.{AllByRecursion}
 use Rattle.plan.specs.Calls.{all_below, below, union_of}
+use Rattle.plan.specs.Calls.Answer.{made}
 use Rattle.plan.specs.Functions.{Functions}
-use Rattle.plan.specs.Model.{Model, Node, Space, count_of, inputs_at, no_node, plans_in, tree_at}
+use Rattle.plan.specs.Model.{Model, Node, Space, Within, count_of, inputs_at, no_node, origin_at, plans_in, tree_at}
 use Rattle.plan.specs.Plans.{Plan, fields_of, further_inputs}
 use Rattle.plan.specs.Swapping.{inputs_of, plan_list}
 use Rattle.plan.specs.Terms.{Field}
 use Rattle.rows.specs.Standing.{Good}
-use Rattle.rewriting.specs.Book.{Added, Helpers, Standing}
+use Rattle.rewriting.specs.Book.{Added, Helpers, Rewrites, Standing, spent_by}
+use Rattle.rewriting.specs.Extracting.{Outcome, built}
 use Rattle.rewriting.specs.Generated.{book_names, highest, list_names, next_number, node_names, plan_names}
 use Rattle.rewriting.specs.Outlay.{Tally}
 use Rattle.stepping.specs.Steps.{AllGood, Extends, Stood}
@@ -177,3 +179,14 @@ module _ (s : Model) (t t' : Tables) (u : Space) (R : Plan) (r o : ℕ) (k : Tal
     text_longer = given.text ∙ e.text.is;
     stand = λ j le lt. standing t' j lt;
   }
+
+-- and the call that asked for it rewrites the node i
+pub stood-rewrites : (s : Model) (t t' : Tables) (R : Plan) (i r : ℕ) (o : Outcome) (k : Tally)
+    → AllGood s → length s.inputs ≡ count_of s → i < count_of s → o ≡ built R k → Stood s s.used R r k (model_of t) → count_of s ≤ r → r + 1 ≡ plan_count t
+    → OriginGiven (model_of t) r (origin_at s i) (model_of t') → Rewrites s i o (made r) (model_of t')
+stood-rewrites s t t' R i r o k good counts here is stood old last given =
+    let m' = model_of t' in
+    let added = stood-added s t t' s.used R r (origin_at s i) k good counts stood old last given in
+    let next : next_number m' ≤ k.next = subst (λ n. n ≤ k.next) (sym (same-names (model_of t) m' r (origin_at s i) stood.present given)) stood.numbers in
+    let spent : Within s.used k.spent m'.used = subst (λ x. Within s.used k.spent x) (sym given.used) stood.spent in
+    (here, (R, k, is, added, next), subst (λ x. Within s.used (spent_by x) m'.used) (sym is) spent)
