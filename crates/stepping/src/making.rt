@@ -1,10 +1,10 @@
 //! A node that is made at a stage.
 ghost use Rattle.plan.specs.Faults.{fault};
 ghost use Rattle.rewriting.specs.Extracting.{made};
-ghost use Rattle.std.specs.Prelude.{◌≡◌, true};
+ghost use Rattle.std.specs.Prelude.{◌≡◌, ◌+◌, IfOk, true};
 ghost use Rattle.stepping.specs.Steps.{Buildable, Steps};
 ghost use Rattle.tables.specs.Begun.{TablesBegin};
-ghost use Rattle.tables.specs.Holding.{model_of, view_in};
+ghost use Rattle.tables.specs.Holding.{model_of, plan_count, view_in};
 ghost use Rattle.stored.specs.Making.{bounded, well_named};
 ghost use Rattle.tables.specs.Making.{present, tree_for, well_placed};
 
@@ -38,6 +38,7 @@ pub fn make_at(
     requires placed { well_placed tables.old node ≡ true }
     requires kind { Buildable tables.old node }
     ensures steps { Steps (model_of tables.old) 0 (made (view_in tables.old).functions stage level (tree_for tables.old node.entry)) result (model_of tables.new) }
+    ensures last { IfOk result (λ r. (r.0 ≡ plan_count tables.old) × (r.0 + 1 ≡ plan_count tables.new)) }
     ensures begins { TablesBegin tables.old tables.new }
 {
     // A match: of the closure that `map_err` takes only its own contract is known.
