@@ -114,7 +114,7 @@ list-numbers : (m : Model) → highest 0 (flat_map expr_names m.exprs) < next_nu
 unfolding book_names
 list-numbers m = omega (arith, names-numbers m, highest-append (list_names m.exprs) (node_names m.functions m.plans), ap (highest 0) (of-list m.exprs))
 
-nodes-numbers : (m : Model) → highest 0 (flat_map (node_all m.functions) m.plans) < next_number m
+pub nodes-numbers : (m : Model) → highest 0 (flat_map (node_all m.functions) m.plans) < next_number m
 unfolding book_names
 nodes-numbers m = omega (arith, names-numbers m, highest-append (list_names m.exprs) (node_names m.functions m.plans), ap (highest 0) (of-nodes m.functions m.plans))
 

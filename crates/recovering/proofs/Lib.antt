@@ -1,1 +1,4 @@
 pub mod Same
+pub mod Qualifiers
+pub mod Listing
+pub mod Referred

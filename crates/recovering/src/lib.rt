@@ -1,4 +1,5 @@
 //! A node rebuilt and recovered over the tables: each step comes to what its definition on trees says, whatever was spent before.
 #![tactic(auto)]
 
+pub mod columns;
 mod comparing;

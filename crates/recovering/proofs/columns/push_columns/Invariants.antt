@@ -1,0 +1,5 @@
+use Rattle.recovering.proofs.Referred.{Partly}
+use Rattle.recovering.proofs.columns.push_columns.Given as goal
+
+abbrev pub invariant-loop-field : goal.invariant-loop-field
+invariant-loop-field l = Partly l.fn.tables l.fn.p.0 l.tables l.field-index l.made
