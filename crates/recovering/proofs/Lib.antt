@@ -2,3 +2,4 @@ pub mod Same
 pub mod Qualifiers
 pub mod Listing
 pub mod Referred
+pub mod Renamed

@@ -39,6 +39,7 @@ pub fn push_columns(
     requires good { every good_field (fields_at tables.old p.0) ≡ true }
     requires empty { made.old ≡ [] }
     ensures answer { ListBy tables.old (refs (fields_at tables.old p.0)) 0 result made.new tables.new }
+    ensures few { length made.new ≤ 64 }
     ensures begins { TablesBegin tables.old tables.new }
 {
     let fields = fields_apart(tables, p);

@@ -3,3 +3,4 @@
 
 pub mod columns;
 mod comparing;
+mod renaming;
