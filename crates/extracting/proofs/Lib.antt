@@ -3,7 +3,7 @@ pub mod Spaces
 pub mod Rewritten
 pub mod Growing
 mod Entered
-mod Built
+pub mod Built
 mod Steps
 mod Cases
 mod Turns

@@ -89,7 +89,7 @@ trees-fields-below F m (n ∷ ns) h =
     (trees-fields-below F m ns (second-below m (node_all F n) (flat_map (node_all F) ns) h))
 
 -- a book that has these expressions and nodes more
-grown-names : (m m' : Model) (es : List Expr) (ns : List Node) → m'.functions ≡ m.functions → m'.exprs ≡ m.exprs ++ es → m'.plans ≡ m.plans ++ ns
+pub grown-names : (m m' : Model) (es : List Expr) (ns : List Node) → m'.functions ≡ m.functions → m'.exprs ≡ m.exprs ++ es → m'.plans ≡ m.plans ++ ns
     → highest 0 (book_names m') ≡ max (highest 0 (book_names m)) (max (highest 0 (list_names es)) (highest 0 (flat_map (node_all m.functions) ns)))
 unfolding book_names
 grown-names m m' es ns f e p =
@@ -100,7 +100,7 @@ grown-names m m' es ns f e p =
     omega (arith, ap (highest 0) names, highest-append (list_names (m.exprs ++ es)) (node_names F (m.plans ++ ns)), ap (highest 0) exprs, ap (highest 0) nodes, highest-append (list_names m.exprs) (list_names es), highest-append (node_names F m.plans) (flat_map (node_all F) ns), highest-append (list_names m.exprs) (node_names F m.plans))
 
 -- the next number by the highest of all names
-next-of : (m : Model) → next_number m ≡ suc (max 99999999 (highest 0 (book_names m)))
+pub next-of : (m : Model) → next_number m ≡ suc (max 99999999 (highest 0 (book_names m)))
 unfolding next_number
 next-of m = ap suc (highest-from 99999999 (book_names m))
 
@@ -115,7 +115,7 @@ list-numbers : (m : Model) → highest 0 (flat_map expr_names m.exprs) < next_nu
 unfolding book_names
 list-numbers m = omega (arith, names-numbers m, highest-append (list_names m.exprs) (node_names m.functions m.plans), ap (highest 0) (of-list m.exprs))
 
-nodes-numbers : (m : Model) → highest 0 (flat_map (node_all m.functions) m.plans) < next_number m
+pub nodes-numbers : (m : Model) → highest 0 (flat_map (node_all m.functions) m.plans) < next_number m
 unfolding book_names
 nodes-numbers m = omega (arith, names-numbers m, highest-append (list_names m.exprs) (node_names m.functions m.plans), ap (highest 0) (of-nodes m.functions m.plans))
 

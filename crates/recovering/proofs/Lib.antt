@@ -1,0 +1,5 @@
+pub mod Same
+pub mod Qualifiers
+pub mod Listing
+pub mod Referred
+pub mod Renamed
