@@ -1,2 +1,3 @@
 mod Spending
 mod Halves
+mod Renamed
