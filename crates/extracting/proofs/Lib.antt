@@ -3,8 +3,8 @@ pub mod Spaces
 pub mod Rewritten
 pub mod Growing
 mod Entered
-mod Built
-mod Steps
+pub mod Built
+pub mod Steps
 mod Cases
 mod Turns
 mod Columned
