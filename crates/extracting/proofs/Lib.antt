@@ -4,7 +4,7 @@ pub mod Rewritten
 pub mod Growing
 mod Entered
 pub mod Built
-mod Steps
+pub mod Steps
 mod Cases
 mod Turns
 mod Columned

@@ -1,0 +1,5 @@
+//! Projections that an extract builds over an input.
+#![tactic(auto)]
+
+pub mod columns;
+pub mod fresh;
