@@ -1,12 +1,12 @@
 -- The fresh Projection, by the lists that were made for it.
-use Rattle.std.proofs.Common.{◌≡◌, ℕ, ◌+◌, ◌<◌, Bool, true, false, cond, ◌&&◌, leb, List, [], ◌∷◌, ◌++◌, map, length, Err, Some, None, Result, inl, inr, sym, refl, ap, ap₂, ◌∙◌, subst, append-nil, arith, length-append}
+use Rattle.std.proofs.Common.{◌≡◌, ℕ, ◌+◌, ◌<◌, Bool, true, false, cond, not, ◌&&◌, ◌||◌, leb, List, [], ◌∷◌, ◌++◌, map, length, Err, Some, None, Result, inl, inr, sym, refl, ap, ap₂, ◌∙◌, subst, append-nil, arith, length-append}
 use Rattle.std.proofs.lemmas.Bool.{and_from, and_parts, le-leb, leb-true, lt-ltb}
 use Rattle.std.proofs.lemmas.List.{length-map}
 use Rattle.std.specs.Borrow.{Bor}
 use Rattle.plan.specs.Calls.{good_field}
 use Rattle.plan.specs.Faults.{fault}
-use Rattle.plan.specs.Fields.{every}
-use Rattle.plan.specs.Functions.{Functions}
+use Rattle.plan.specs.Fields.{any, every}
+use Rattle.plan.specs.Functions.{Functions, is_total}
 use Rattle.plan.specs.Model.{Model, fits, plan_in}
 use Rattle.plan.specs.Plans.{Plan, fields_of, plan_size_of}
 use Rattle.plan.specs.Plans.Plan.{projection}
@@ -24,7 +24,7 @@ use Rattle.rewriting.specs.Outlay.{Tally, charged, list_space}
 use Rattle.rows.specs.Standing.{refs}
 use Rattle.routing.specs.declared.owning.Side.{Side}
 use Rattle.tables.specs.Holding.{fields_at, model_of, plan_count, tree_in, view_in}
-use Rattle.tables.specs.Making.{present, tree_for}
+use Rattle.tables.specs.Making.{present, tree_for, well_placed}
 use Rattle.stored.specs.Stored.{node_trees}
 use Rattle.stored.specs.declared.node.NewNode.TheVariants.{Projection}
 use Rattle.tables.specs.declared.tables.Tables.{Tables}
@@ -36,7 +36,8 @@ use Rattle.extracting.proofs.Spaces.{AtMost, first-space}
 use Rattle.extracting.specs.Walking.{Grows, NoRoom}
 use Rattle.extracting.specs.declared.extractor.Extractor.{Extractor}
 use Rattle.stepping.proofs.Chain.{charged-err, charged-then, fits-no-more, made-spends}
-use Rattle.stepping.specs.Lists.{ListMade}
+use Rattle.rewriting.specs.Routing.{Pair}
+use Rattle.stepping.specs.Lists.{ListMade, NoTotals, at_side}
 use Rattle.stepping.specs.Steps.{Steps}
 use Rattle.projecting.proofs.Keeping.{node-held}
 use Rattle.projecting.proofs.Listing.{no-room-in, onto-both, onto-long}
@@ -80,6 +81,16 @@ too-long es lt = go (leb (0 + length es) 64) refl
     go : (b : Bool) → leb (0 + length es) 64 ≡ b → (b && every small_tree es) ≡ false
     go true e = absurd (let l = leb-true (0 + length es) 64 e in omega arith)
     go false e = refl
+
+-- references are no totals, and the pairs bring none
+refs-plain : (F : Functions) (fs : List Field) → any (is_total F) (refs fs) ≡ false
+refs-plain F [] = refl
+refs-plain F (f ∷ fs) = refs-plain F fs
+
+fresh-plain : (F : Functions) (fs : List Field) (ps : List Pair) → NoTotals F ps → any (is_total F) (freshly fs ps) ≡ false
+unfolding freshly
+fresh-plain F fs [] h = refs-plain F fs
+fresh-plain F fs (p ∷ ps) h = ap₂ (λ a b. a || b) h.0 (fresh-plain F fs ps h.1)
 
 module _ (t : Tables) (x : Extractor) (s : Side) (p : PlanId) where
   abbrev F : Functions
@@ -133,6 +144,9 @@ module _ (t : Tables) (x : Extractor) (s : Side) (p : PlanId) where
 
       pub node-present : p.0 < plan_count t → present w (Projection p l) ≡ true
       node-present lt = and_from _ _ (lt-ltb p.0 (plan_count w) (omega (arith, lt, ap length all.grows.plans))) all.present
+
+      pub node-placed : NoTotals F (at_side (view_in t) x s) → well_placed w (Projection p l) ≡ true
+      node-placed h = ap₂ (λ G ds. not (any (is_total G) ds)) all.grows.functions all.trees ∙ ap not (fresh-plain F (fields_at t p.0) (at_side (view_in t) x s) h)
 
       tree-is : tree_for w (Projection p l) ≡ fresh_tree t x s p.0
       tree-is = ap₂ projection all.trees (ap (λ ns. plan_in (node_trees ns) p.0) all.grows.plans)

@@ -10,6 +10,7 @@ ghost use Rattle.rewriting.specs.Limits.{OnlyEight};
 ghost use Rattle.rewriting.specs.Routing.{same_side, unalias};
 ghost use Rattle.routing.specs.Sides.{side_of};
 ghost use Rattle.std.specs.Prelude.{◌≡◌, ◌+◌, ◌<◌, true};
+ghost use Rattle.stepping.specs.Lists.{NoTotals, at_side};
 ghost use Rattle.stepping.specs.Steps.{Steps};
 ghost use Rattle.tables.specs.Begun.{TablesBegin};
 ghost use Rattle.tables.specs.Holding.{fields_at, model_of, plan_count, view_in};
@@ -124,6 +125,7 @@ pub fn freshly(
     requires fields { every good_field (fields_at tables.old input.0) ≡ true }
     requires inside { Inside (view_in tables.old) extractor.now }
     requires only { OnlyEight (view_in tables.old).functions (fresh_tree tables.old extractor.now side input.0) }
+    requires plain { NoTotals (view_in tables.old).functions (at_side (view_in tables.old) extractor.now side) }
     ensures steps { Steps (model_of tables.old) extractor.now.next (fresh_outcome tables.old extractor.now side input.0) result (model_of tables.new) }
     ensures begins { TablesBegin tables.old tables.new }
 {

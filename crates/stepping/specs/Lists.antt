@@ -2,11 +2,14 @@
 --     ListMade t es low ids t'      ids stand for the expressions es, no more than their places were used, and no name has a number from low on that was not there
 --     ListBy t es low r ids t'      it is so; or the places of es do not fit
 --     at_side v x s      the pairs that the extractor x has for the input s
+--     NoTotals F ps      no expression of the pairs is a total
 use Rattle.std.specs.Prelude.{◌≡◌, ℕ, true, false, List, length, Ok, Err, Result}
 use Rattle.extracting.specs.Extractors.{entries_of}
 use Rattle.extracting.specs.Walking.{Grows, NoRoom, Numbered}
 use Rattle.extracting.specs.declared.extractor.Extractor.{Extractor}
+use Rattle.std.specs.List.{AllByRecursion}
 use Rattle.plan.specs.Calls.{all_below}
+use Rattle.plan.specs.Functions.{Functions, is_total}
 use Rattle.plan.specs.Model.{Within, exprs_in}
 use Rattle.plan.specs.Terms.{Expr}
 use Rattle.plan.specs.declared.fault.Fault.{Fault}
@@ -29,6 +32,9 @@ pub record ListMade (t : Tables) (es : List Expr) (low : ℕ) (ids : List ExprId
 abbrev pub ListBy : Tables → List Expr → ℕ → Result (Unit {0}) Fault → List ExprId → Tables → Type 0
 ListBy t es low (Ok v) ids t' = ListMade t es low ids t'
 ListBy t es low (Err f) ids t' = NoRoom t (list_space es) f
+
+abbrev pub NoTotals : Functions → List Pair → Type 0
+NoTotals F ps = AllByRecursion (λ d. is_total F d.0 ≡ false) ps
 
 abbrev pub at_side : View → Extractor → Side → List Pair
 at_side v x s = pairs_of (side_of s) (entries_of v x)

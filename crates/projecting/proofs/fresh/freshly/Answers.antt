@@ -6,7 +6,7 @@ use Rattle.plan.specs.Fields.{every}
 use Rattle.entries.specs.Spans.{stored_field, stored_in}
 use Rattle.tables.specs.Holding.{model_of, view_in}
 use Rattle.stepping.specs.Steps.{Steps}
-use Rattle.projecting.proofs.Freshening.{columns-stop, held-there, many-stop, node-present, pairs-stop, projection-made}
+use Rattle.projecting.proofs.Freshening.{columns-stop, held-there, many-stop, node-placed, node-present, pairs-stop, projection-made}
 use Rattle.projecting.proofs.Listing.{onto-long}
 use Rattle.projecting.proofs.fresh.freshly.Goals as goal
 use Rattle.projecting.specs.Freshly.{Misfit, fresh_outcome, trees_for}
@@ -72,6 +72,18 @@ make_at-requires-clause-present c =
     let gs = c.as_slice.result.now in
     let is = ap (fields_in u) c.as_slice.ensures ∙ c.copied_fields-fields.ensures.value in
     node-present t x s c.args.input u ids a gs is c.push_columns.new.tables c.push_columns.new.list c.in_ok-push_columns.ensures.answer c.as_slice-2.result c.as_slice-2.ensures c.requires.present
+
+pub make_at-requires-clause-placed : goal.make_at-requires-clause-placed
+make_at-requires-clause-placed c =
+    let t = c.args.tables.now in
+    let x = c.args.extractor.now in
+    let s = c.args.side in
+    let u = c.push_pairs.new.tables in
+    let ids = c.push_pairs.new.list in
+    let a = subst (λ l. Onto t (trees_for (view_in t) x s) x.next l ids u) c.new-list.ensures c.in_ok-push_pairs.ensures.answer in
+    let gs = c.as_slice.result.now in
+    let is = ap (fields_in u) c.as_slice.ensures ∙ c.copied_fields-fields.ensures.value in
+    node-placed t x s c.args.input u ids a gs is c.push_columns.new.tables c.push_columns.new.list c.in_ok-push_columns.ensures.answer c.as_slice-2.result c.as_slice-2.ensures c.requires.plain
 
 pub make_at-requires-clause-bounded : goal.make_at-requires-clause-bounded
 make_at-requires-clause-bounded c =
