@@ -1,3 +1,4 @@
 mod Spending
 mod Halves
 mod Renamed
+mod Projected

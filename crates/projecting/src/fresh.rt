@@ -30,7 +30,7 @@ use terms::terms::Terms;
 
 /// Whether an entry is of this input.
 #[tactic(auto, unfolding(rewriting::specs::Routing::same_side))]
-fn is_of(entry: Extracted, side: Side) -> bool
+pub fn is_of(entry: Extracted, side: Side) -> bool
     ensures { result ≡ same_side (side_of entry.side) (side_of side) }
 {
     matches!(
