@@ -3,3 +3,4 @@ pub mod Qualifiers
 pub mod Listing
 pub mod Referred
 pub mod Renamed
+pub mod Recovered

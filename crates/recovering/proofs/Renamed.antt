@@ -1,5 +1,5 @@
 -- A field under another name: one reference, or one and an alias.
-use Rattle.std.proofs.Common.{◌≡◌, ℕ, suc, ◌+◌, ◌<◌, ◌≤◌, Bool, true, false, cond, ◌&&◌, ◌||◌, List, [], ◌∷◌, ◌++◌, length, get_or, Ok, Err, Result, sym, refl, ap, ◌∙◌, subst, append-nil, arith, not-suc-le-zero}
+use Rattle.std.proofs.Common.{◌≡◌, ℕ, zero, suc, ◌+◌, ◌<◌, ◌≤◌, Bool, true, false, cond, ◌&&◌, ◌||◌, List, [], ◌∷◌, ◌++◌, length, get_or, Ok, Err, Result, sym, refl, ap, ◌∙◌, subst, append-nil, arith, not-suc-le-zero}
 use Rattle.std.proofs.lemmas.Bool.{and_parts}
 use Rattle.entries.specs.declared.node.ExprId.{ExprId}
 use Rattle.extracting.proofs.Built.{reused-built}
@@ -31,7 +31,7 @@ one = space 1 0 0 0 0
 next-later : (a b : Model) → Grows a b → next_number a ≤ next_number b
 next-later a b g = omega (arith, next-of a, next-of b, grown-names a b g.exprs.more [] g.functions g.exprs.is (g.plans ∙ sym (append-nil a.plans)))
 
-both-low : (m : ℕ) (f g : Field) → highest 0 (expr_names (reference f)) < m → highest 0 (expr_names (reference g)) < m → highest 0 (expr_names (alias (reference g) f)) < m
+pub both-low : (m : ℕ) (f g : Field) → highest 0 (expr_names (reference f)) < m → highest 0 (expr_names (reference g)) < m → highest 0 (expr_names (alias (reference g) f)) < m
 unfolding expr_names
 both-low m f g h k = omega (arith, highest-append (field_names f) (field_names g))
 
@@ -76,3 +76,24 @@ module _ (t u : Tables) (f g : Field) where
         let is : alias (expr_in (view_in u).trees c) f ≡ alias (reference g) f = ap (λ e. alias e f) b.tree in
         subst (λ e. BuiltBy t (tree_space e) 0 e r v) (sym (ap (λ k. cond k (reference g) (alias (reference g) f)) h))
         (both v r (reused-built u v (alias (reference g) f) r (omega (arith, low, later)) (subst (λ e. Reused (model_of u) e r (model_of v)) is a)))
+
+-- the list by place, item by item
+module _ where
+  pub placed-at : (fs gs : List Field) (i : ℕ) → i < length fs → i < length gs → get_or (by_place fs gs) i no_expr ≡ placed (get_or fs i no_field) (get_or gs i no_field)
+  unfolding by_place
+  placed-at [] gs i lt gt = absurd (not-suc-le-zero lt)
+  placed-at (f ∷ fs) [] i lt gt = absurd (not-suc-le-zero gt)
+  placed-at (f ∷ fs) (g ∷ gs) zero lt gt = refl
+  placed-at (f ∷ fs) (g ∷ gs) (suc i) lt gt = placed-at fs gs i (omega arith) (omega arith)
+
+  pub placed-many : (fs gs : List Field) → length fs ≡ length gs → length (by_place fs gs) ≡ length fs
+  unfolding by_place
+  placed-many [] gs e = refl
+  placed-many (f ∷ fs) [] e = absurd (omega arith)
+  placed-many (f ∷ fs) (g ∷ gs) e = ap suc (placed-many fs gs (omega arith))
+
+  pub rename-at : (fs gs : List Field) (i : ℕ) → i < length fs → i < length gs → can_rename fs gs ≡ true → (same_field (get_or fs i no_field) (get_or gs i no_field) || good_alias (get_or fs i no_field)) ≡ true
+  rename-at [] gs i lt gt h = absurd (not-suc-le-zero lt)
+  rename-at (f ∷ fs) [] i lt gt h = absurd (not-suc-le-zero gt)
+  rename-at (f ∷ fs) (g ∷ gs) zero lt gt h = (and_parts (same_field f g || good_alias f) (can_rename fs gs) h).0
+  rename-at (f ∷ fs) (g ∷ gs) (suc i) lt gt h = rename-at fs gs i (omega arith) (omega arith) (and_parts (same_field f g || good_alias f) (can_rename fs gs) h).1

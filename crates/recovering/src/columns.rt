@@ -14,7 +14,7 @@ use table::table::Table;
 use tables::tables::Tables;
 
 /// The fields of a node, apart from the tables.
-fn fields_apart(tables: &Tables, p: PlanId) -> Table<StoredField, 64>
+pub(crate) fn fields_apart(tables: &Tables, p: PlanId) -> Table<StoredField, 64>
     requires { p.0 < plan_count tables.now }
     ensures fields { map (stored_field (view_in tables.now).bytes) result ≡ fields_at tables.now p.0 }
     ensures stored { every (stored_in (view_in tables.now).bytes) result ≡ true }

@@ -3,4 +3,5 @@
 
 pub mod columns;
 mod comparing;
+pub mod recovery;
 mod renaming;

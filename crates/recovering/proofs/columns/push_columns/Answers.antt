@@ -1,4 +1,4 @@
-use Rattle.std.proofs.Common.{◌≡◌, ◌<◌, None, Err, Ok, length, get_or, lit<, map, sym, ap, ◌∙◌, subst, arith, rules}
+use Rattle.std.proofs.Common.{◌≡◌, ◌<◌, None, Err, Ok, length, get_or, lit<, map, sym, refl, ap, ◌∙◌, subst, arith, rules}
 use Rattle.std.proofs.lemmas.List.{length-map}
 use Rattle.entries.specs.Spans.{stored_field, stored_in}
 use Rattle.entries.specs.declared.node.StoredField.{StoredField}
@@ -13,7 +13,7 @@ use Rattle.tables.proofs.Begun.{tables-then}
 use Rattle.tables.specs.Holding.{fields_at, view_in}
 use Rattle.recovering.proofs.Listing.{all-made, none-yet, turn-fails, turn-made}
 use Rattle.recovering.proofs.Qualifiers.{no_field}
-use Rattle.recovering.proofs.Referred.{as-many, column-built, field-is, reference-space, refs-at, stored-still}
+use Rattle.recovering.proofs.Referred.{as-many, at-place, column-built, good-at, reference-space, refs-at}
 use Rattle.recovering.proofs.columns.push_columns.Goals as goal
 
 abbrev filler : StoredField
@@ -35,7 +35,7 @@ column-requires-clause-stored c =
     let are = ap (map (stored_field (view_in t).bytes)) is ∙ c.fields_apart-fields.ensures.fields in
     let stored = ap (every (stored_in (view_in t).bytes)) is ∙ c.fields_apart-fields.ensures.stored in
     let lt = c.loop-field-test.true in
-    stored-still t p xs are stored u k.listed.grows i lt filler
+    (at-place t p xs are stored u k.listed.grows i lt filler _ refl).stored
 
 pub column-requires-clause-good : goal.column-requires-clause-good
 column-requires-clause-good c =
@@ -50,8 +50,7 @@ column-requires-clause-good c =
     let are = ap (map (stored_field (view_in t).bytes)) is ∙ c.fields_apart-fields.ensures.fields in
     let stored = ap (every (stored_in (view_in t).bytes)) is ∙ c.fields_apart-fields.ensures.stored in
     let lt = c.loop-field-test.true in
-    let among : i < length fs = omega (arith, lt, as-many t p xs are) in
-    ap good_field (field-is t p xs are stored u k.listed.grows i lt filler) ∙ every-at good_field fs i no_field among c.requires.good
+    good-at t p u i _ (at-place t p xs are stored u k.listed.grows i lt filler _ refl) c.requires.good
 
 pub returns-in_err-column-clause-answer : goal.returns-in_err-column-clause-answer
 returns-in_err-column-clause-answer c =
@@ -66,13 +65,13 @@ returns-in_err-column-clause-answer c =
     let are = ap (map (stored_field (view_in t).bytes)) is ∙ c.fields_apart-fields.ensures.fields in
     let stored = ap (every (stored_in (view_in t).bytes)) is ∙ c.fields_apart-fields.ensures.stored in
     let lt = c.loop-field-test.true in
-    let among : i < length fs = omega (arith, lt, as-many t p xs are) in
     let d = c.in_err-column.field-0.0 in
     let is-err : c.from_residual.result ≡ Err d = search rules in
     let f = get_or fs i no_field in
+    let a = at-place t p xs are stored u k.listed.grows i lt filler _ refl in
     subst (λ r. ListBy t (refs fs) 0 r c.loop-field.made c.column.new.self) (sym is-err)
-    (turn-fails t (refs fs) u i c.loop-field.made k (reference f) (refs-at fs i among) (omega (arith, among, length-map fs reference)) (space 1 0 0 0 0) (reference-space f) d
-    (column-built t p xs are stored u k.listed.grows i lt filler c.column.new.self (Err d) c.in_err-column.ensures.answer))
+    (turn-fails t (refs fs) u i c.loop-field.made k (reference f) (refs-at fs i a.inside) (omega (arith, a.inside, length-map fs reference)) (space 1 0 0 0 0) (reference-space f) d
+    (column-built t p u i _ a c.column.new.self (Err d) c.in_err-column.ensures.answer))
 
 pub returns-in_err-column-clause-begins : goal.returns-in_err-column-clause-begins
 returns-in_err-column-clause-begins c = tables-then c.args.tables.now c.loop-field.tables c.column.new.self c.loop-field.invariant.begins c.column.ensures.begins
@@ -96,11 +95,11 @@ loop-field-preserved c =
     let are = ap (map (stored_field (view_in t).bytes)) is ∙ c.fields_apart-fields.ensures.fields in
     let stored = ap (every (stored_in (view_in t).bytes)) is ∙ c.fields_apart-fields.ensures.stored in
     let lt = c.loop-field-test.true in
-    let among : i < length fs = omega (arith, lt, as-many t p xs are) in
     let f = get_or fs i no_field in
+    let a = at-place t p xs are stored u k.listed.grows i lt filler _ refl in
     let r = c.in_ok-column.column in
-    turn-made t (refs fs) u i c.loop-field.made k (reference f) (refs-at fs i among) (omega (arith, among, length-map fs reference)) (space 1 0 0 0 0) (reference-space f) c.column.new.self r c.push.new.self c.push.ensures c.in_ok-column.ensures.begins
-    (column-built t p xs are stored u k.listed.grows i lt filler c.column.new.self (Ok r) c.in_ok-column.ensures.answer)
+    turn-made t (refs fs) u i c.loop-field.made k (reference f) (refs-at fs i a.inside) (omega (arith, a.inside, length-map fs reference)) (space 1 0 0 0 0) (reference-space f) c.column.new.self r c.push.new.self c.push.ensures c.in_ok-column.ensures.begins
+    (column-built t p u i _ a c.column.new.self (Ok r) c.in_ok-column.ensures.answer)
 
 pub returns-clause-answer : goal.returns-clause-answer
 returns-clause-answer c =
