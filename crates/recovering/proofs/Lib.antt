@@ -4,3 +4,4 @@ pub mod Listing
 pub mod Referred
 pub mod Renamed
 pub mod Recovered
+pub mod Rebuilt

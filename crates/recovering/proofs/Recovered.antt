@@ -1,15 +1,17 @@
 -- The recovery of a node as a step.
-use Rattle.std.proofs.Common.{◌≡◌, ℕ, ◌<◌, ◌≤◌, Bool, true, false, cond, ◌⊎◌, List, [], length, get_or, eqb, Ok, Err, Result, inl, inr, sym, refl, ap, ap₂, ◌∙◌, subst, append-nil, not-suc-le-zero, arith}
+use Rattle.std.proofs.Common.{◌≡◌, ℕ, ◌<◌, ◌≤◌, Bool, true, false, cond, not, ◌||◌, ◌⊎◌, List, [], ◌∷◌, length, get_or, eqb, Ok, Err, Result, inl, inr, sym, refl, ap, ap₂, ◌∙◌, subst, append-nil, not-suc-le-zero, arith}
 use Rattle.entries.specs.declared.node.ExprId.{ExprId}
 use Rattle.entries.specs.declared.node.PlanId.{PlanId}
 use Rattle.extracting.proofs.Growing.{grows-at-once}
 use Rattle.extracting.specs.Walking.{NoRoom}
 use Rattle.plan.specs.Faults.{refusal}
-use Rattle.plan.specs.Functions.{Functions}
+use Rattle.plan.specs.Fields.{any}
+use Rattle.plan.specs.Functions.{Functions, is_total}
 use Rattle.plan.specs.Model.{Model, Space, count_of, exprs_in, no_node, plan_in, tree_at}
 use Rattle.plan.specs.Plans.{Plan, fields_of}
 use Rattle.plan.specs.Plans.Plan.{projection}
-use Rattle.plan.specs.Terms.{Expr, Field}
+use Rattle.plan.specs.Terms.{Expr, Field, same_field}
+use Rattle.plan.specs.Terms.Expr.{alias, reference}
 use Rattle.plan.specs.declared.fault.Fault.{Fault}
 use Rattle.plan.specs.declared.fault.Question.TheVariants.{Space as SpaceQuestion}
 use Rattle.plan.specs.declared.fault.Stage.TheVariants.{Recovery}
@@ -25,6 +27,31 @@ use Rattle.tables.specs.Holding.{fields_at, model_of, plan_count, tree_in, trees
 use Rattle.tables.specs.declared.tables.Tables.{Tables}
 use Rattle.terms.specs.Views.{numbers_of}
 use Rattle.recovering.specs.Renaming.{recovery_list}
+
+-- the list of a recovery has no total
+by-place-plain : (F : Functions) (fs gs : List Field) → any (is_total F) (by_place fs gs) ≡ false
+unfolding by_place
+by-place-plain F [] gs = refl
+by-place-plain F (f ∷ fs) [] = refl
+by-place-plain F (f ∷ fs) (g ∷ gs) = ap₂ (λ a b. a || b) (either (same_field f g)) (by-place-plain F fs gs)
+  where
+    either : (b : Bool) → is_total F (cond b (reference g) (alias (reference g) f)) ≡ false
+    either true = refl
+    either false = refl
+
+refs-plain : (F : Functions) (fs : List Field) → any (is_total F) (refs fs) ≡ false
+refs-plain F [] = refl
+refs-plain F (f ∷ fs) = refs-plain F fs
+
+recovery-plain : (F : Functions) (fs gs : List Field) → any (is_total F) (recovery_list fs gs) ≡ false
+recovery-plain F fs gs = go (eqb (length fs) (length gs))
+  where
+    go : (b : Bool) → any (is_total F) (cond b (by_place fs gs) (refs fs)) ≡ false
+    go true = by-place-plain F fs gs
+    go false = refs-plain F fs
+
+pub recovery-placed : (t u : Tables) (fs gs : List Field) (ids : List ExprId) → ListMade t (recovery_list fs gs) 0 ids u → not (any (is_total (view_in u).functions) (exprs_in (view_in u).trees (numbers_of ids))) ≡ true
+recovery-placed t u fs gs ids l = ap not (ap (any (is_total (view_in u).functions)) l.trees ∙ recovery-plain (view_in u).functions fs gs)
 
 -- a step is that of any definition that comes to the same
 pub steps-as : (m m' : Model) (low : ℕ) (o o' : Tally → Outcome) (r : Result PlanId Fault) → ((n : Tally) → o n ≡ o' n) → Steps m low o r m' → Steps m low o' r m'

@@ -3,5 +3,6 @@
 
 pub mod columns;
 mod comparing;
+pub mod rebuilding;
 pub mod recovery;
 mod renaming;

@@ -3,7 +3,7 @@ ghost use Rattle.plan.specs.Calls.{good_field};
 ghost use Rattle.plan.specs.Fields.{every};
 ghost use Rattle.recovering.specs.Renaming.{can_rename, recovery_list};
 ghost use Rattle.rewriting.specs.Extracting.{build_recovery_projection};
-ghost use Rattle.std.specs.Prelude.{◌≡◌, ◌<◌, ◌≤◌, [], true, length};
+ghost use Rattle.std.specs.Prelude.{◌≡◌, ◌+◌, ◌<◌, ◌≤◌, [], true, length, IfOk};
 ghost use Rattle.stepping.specs.Lists.{ListBy};
 ghost use Rattle.stepping.specs.Steps.{Steps};
 ghost use Rattle.tables.specs.Begun.{TablesBegin};
@@ -16,7 +16,7 @@ use entries::node::{ExprId, PlanId};
 use plan::fault::{Fault, Stage};
 use stepping::making::make_at;
 use table::table::Table;
-use tables::node::NewNode;
+use stored::node::NewNode;
 use tables::tables::Tables;
 
 /// Makes the list of a recovery: by place if there are as many fields, else by name.
@@ -43,7 +43,7 @@ fn push_recovery(
     }
 }
 
-/// A node with the fields of an old one: itself where it has them, else a Projection over it.
+/// The last node with the fields of an old one: itself where it has them, else a Projection over it.
 pub fn build_recovery_projection(
     tables: &mut Tables,
     old: PlanId,
@@ -54,7 +54,9 @@ pub fn build_recovery_projection(
     requires good { every good_field (fields_at tables.old old.0) ≡ true }
     requires shown { every good_field (fields_at tables.old p.0) ≡ true }
     requires fits { length (fields_at tables.old old.0) ≡ length (fields_at tables.old p.0) → can_rename (fields_at tables.old old.0) (fields_at tables.old p.0) ≡ true }
+    requires last { p.0 + 1 ≡ plan_count tables.old }
     ensures steps { Steps (model_of tables.old) 0 (build_recovery_projection (view_in tables.old).functions 0 (fields_at tables.old old.0) (tree_in tables.old p.0)) result (model_of tables.new) }
+    ensures last { IfOk result (λ r. (p.0 ≤ r.0) × (r.0 + 1 ≡ plan_count tables.new)) }
     ensures begins { TablesBegin tables.old tables.new }
 {
     if same_fields(tables, old, p) {

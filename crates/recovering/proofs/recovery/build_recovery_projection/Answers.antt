@@ -3,7 +3,7 @@ use Rattle.rewriting.specs.Extracting.{build_recovery_projection}
 use Rattle.stepping.specs.Lists.{ListMade}
 use Rattle.stepping.specs.Steps.{Steps}
 use Rattle.tables.specs.Holding.{fields_at, model_of, tree_in, view_in}
-use Rattle.recovering.proofs.Recovered.{recovers-full, recovers-made, recovers-same}
+use Rattle.recovering.proofs.Recovered.{recovers-full, recovers-made, recovers-same, recovery-placed}
 use Rattle.recovering.proofs.recovery.build_recovery_projection.Goals as goal
 use Rattle.recovering.specs.Renaming.{recovery_list}
 
@@ -18,6 +18,14 @@ returns-in_err-push_recovery-clause-steps c =
     let is-err : c.from_residual.result ≡ Err e = search rules in
     subst (λ r. Steps (model_of t) 0 (build_recovery_projection (view_in t).functions 0 (fields_at t c.args.old.0) (tree_in t c.args.p.0)) r m) (sym is-err)
     (recovers-full t c.args.old c.args.p (sym c.same_fields.ensures ∙ c.if-same_fields.false) e m c.in_err-push_recovery.ensures.answer)
+
+pub make_at-requires-clause-placed : goal.make_at-requires-clause-placed
+make_at-requires-clause-placed c =
+    let t = c.args.tables.now in
+    let u = c.push_recovery.new.tables in
+    let fs = fields_at t c.args.old.0 in
+    let gs = fields_at t c.args.p.0 in
+    recovery-placed t u fs gs c.as_slice.result.now (subst (λ ids. ListMade t (recovery_list fs gs) 0 ids u) (sym c.as_slice.ensures) c.in_ok-push_recovery.ensures.answer)
 
 pub returns-clause-steps : goal.returns-clause-steps
 returns-clause-steps c =
