@@ -78,14 +78,20 @@ module _ (t : Tables) (F : Functions) (es ws : List Expr) (g : Extractor) (fin :
 
       pub half-built : (r : PlanId) (m' : Model) → Steps (model_of u) low fin (Ok r) m' → count_of m ≤ r.0 → r.0 + 1 ≡ count_of m' → Comes m whole (Ok (Some r)) m'
       half-built r m' s old last =
-          let h = s m.used spent start in
-          (h.0, h.1, is-built full new ∙ h.2, record {
-            present = h.4.present;
-            tree = h.4.tree;
-            extends = extends-then m (model_of u) m' (grown-extends m (model_of u) grows) h.4.extends;
-            spent = h.4.spent;
-            numbers = h.4.numbers;
-          }, old, last)
+          let h = s m.used spent start in (
+            h.0,
+            h.1,
+            is-built full new ∙ h.2,
+            record {
+              present = h.4.present;
+              tree = h.4.tree;
+              extends = extends-then m (model_of u) m' (grown-extends m (model_of u) grows) h.4.extends;
+              spent = h.4.spent;
+              numbers = h.4.numbers;
+            },
+            old,
+            last,
+          )
 
       pub half-refused : (f : Fault) (m' : Model) → Steps (model_of u) low fin (Err f) m' → Comes m whole (Err f) m'
       half-refused f m' s = subst (λ o. ((k : Tally) × (o ≡ refused f k)) ⊎ NoSpace m.used o f) (sym (is-built full new)) (s m.used spent start)

@@ -1,3 +1,4 @@
 pub mod Comes
 pub mod Shapes
 pub mod Found
+pub mod Keys

@@ -1,5 +1,10 @@
 //! Marked calls are taken out of a node and put under aliases below it, over the tables.
 #![tactic(auto)]
 
-pub mod extract;
+mod aggregate;
+mod extraction;
+mod filter;
+mod join;
+mod over;
 pub mod shape;
+mod sort;

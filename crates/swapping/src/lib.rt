@@ -1,6 +1,6 @@
 //! A node with one input replaced by another of the same origin.
 #![tactic(auto)]
 
-mod copying;
+pub mod copying;
 mod remaking;
 pub mod swapping;

@@ -1,0 +1,63 @@
+//! Extract of an Aggregate.
+ghost use Rattle.leaf_expressions.specs.Comes.{Comes, extracted};
+ghost use Rattle.plan.specs.Plans.Plan.{aggregate};
+ghost use Rattle.std.specs.Prelude.{◌≡◌, ◌<◌, ◌≤◌, true};
+ghost use Rattle.stepping.specs.Steps.{AllGood};
+ghost use Rattle.stored.specs.Stored.{list_in, run_exprs};
+ghost use Rattle.tables.specs.Begun.{TablesBegin};
+ghost use Rattle.tables.specs.Holding.{model_of, plan_count, tree_in, view_in};
+
+use crate::over::rebuilt_over;
+use crate::shape::Shape;
+use entries::node::{ExprId, PlanId, Run};
+use extracting::extractor::Extractor;
+use extracting::inputs::Inputs;
+use extracting::walking::routing_extract_all;
+use numbering::next::next_number;
+use plan::fault::Fault;
+use routing::marked::has_extractable_expr;
+use swapping::copying::copied;
+use table::table::Table;
+use tables::tables::Tables;
+
+/// What is Marked is taken out of the groups and of what the totals take.
+pub(crate) fn extract_aggregate(
+    tables: &mut Tables,
+    p: PlanId,
+    input: PlanId,
+    groups: Run,
+    totals: Run,
+) -> Result<Option<PlanId>, Fault>
+    requires node { p.0 < plan_count tables.old }
+    requires input { input.0 < plan_count tables.old }
+    requires groups { list_in (view_in tables.old) groups ≡ true }
+    requires totals { list_in (view_in tables.old) totals ≡ true }
+    requires few { (groups.count ≤ 16) × (totals.count ≤ 16) }
+    requires tree { tree_in tables.old p.0 ≡ aggregate (run_exprs (view_in tables.old) groups) (run_exprs (view_in tables.old) totals) (tree_in tables.old input.0) }
+    requires good { AllGood (model_of tables.old) }
+    ensures comes { Comes (model_of tables.old) (extracted tables.old p.0) result (model_of tables.new) }
+    ensures begins { TablesBegin tables.old tables.new }
+{
+    let by: Table<ExprId, 16> = copied(tables.terms().entries(groups));
+    let of: Table<ExprId, 16> = copied(tables.terms().entries(totals));
+    if !has_extractable_expr(tables.terms(), by.as_slice())
+        && !has_extractable_expr(tables.terms(), of.as_slice())
+    {
+        return Ok(None);
+    }
+    let mut extractor = Extractor::starting_at(next_number(tables));
+    let mut new_by = Table::new(ExprId(0));
+    let mut new_of = Table::new(ExprId(0));
+    let inputs = Inputs::One(input);
+    routing_extract_all(tables, inputs, by.as_slice(), &mut extractor, &mut new_by)?;
+    routing_extract_all(tables, inputs, of.as_slice(), &mut extractor, &mut new_of)?;
+    if !extractor.is_new() {
+        return Ok(None);
+    }
+    let shape = Shape::Aggregate {
+        groups: new_by.as_slice(),
+        totals: new_of.as_slice(),
+    };
+    let new = rebuilt_over(tables, p, input, &extractor, shape)?;
+    Ok(Some(new))
+}
