@@ -2,3 +2,6 @@ mod Spending
 mod Halves
 mod Renamed
 mod Projected
+mod Shaped
+mod Covered
+mod Pairs

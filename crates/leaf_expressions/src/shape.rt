@@ -1,10 +1,6 @@
 //! A node over one input, apart from the input.
-ghost use Rattle.leaf_expressions.specs.Shapes.{tree_with};
-ghost use Rattle.plan.specs.Model.{plan_in};
-ghost use Rattle.plan.specs.Plans.{Plan};
-ghost use Rattle.std.specs.Prelude.{◌≡◌, ℕ, List};
-ghost use Rattle.stored.specs.Making.{tree_over};
-ghost use Rattle.terms.specs.Views.{View};
+ghost use Rattle.leaf_expressions.specs.Shapes.{node_over};
+ghost use Rattle.std.specs.Prelude.{◌≡◌};
 
 use entries::node::{ExprId, PlanId};
 use stored::node::{NewNode, SortKey};
@@ -27,7 +23,7 @@ pub enum Shape<'a> {
 impl<'a> Shape<'a> {
     /// The node over an input.
     pub fn over(self, input: PlanId) -> NewNode<'a>
-        ensures { (v : View) → (k : ℕ) → (ts : List Plan) → tree_over v k ts result ≡ tree_with v self.entry (plan_in ts input.0) }
+        ensures { result ≡ node_over self.entry input }
     {
         match self {
             Shape::Filter { predicate } => NewNode::Filter { input, predicate },
