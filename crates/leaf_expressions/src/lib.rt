@@ -2,6 +2,7 @@
 #![tactic(auto)]
 
 mod aggregate;
+pub mod extract;
 mod extraction;
 mod filter;
 mod join;

@@ -20,7 +20,7 @@ make-requires c =
       present = sym c.has_list.ensures ∙ c.in_ok-ask.ensures;
       bounded = (and_parts (leb 1 (length l)) _ (sym c.is_count.ensures ∙ c.in_ok-ask-2.ensures)).1;
       named = refl;
-      placed = ap not (sym c.any_total.ensures) ∙ c.in_ok-ask-3.ensures;
+      placed = ap not (sym (c.any_total.ensures ∙ totals-lent c.args.tables.now _ c.terms.ensures (numbers_of c.args.list.now))) ∙ c.in_ok-ask-3.ensures;
     }
 
 pub returns-in_err-ask-3 : goal.returns-in_err-ask-3
