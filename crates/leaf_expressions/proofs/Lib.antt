@@ -5,3 +5,4 @@ mod Projected
 mod Shaped
 mod Covered
 mod Pairs
+mod Attempted
