@@ -1,11 +1,12 @@
 mod Needs
+pub mod Accepted
 pub mod Spaces
 pub mod Rewritten
 pub mod Growing
 mod Entered
-mod Built
-mod Steps
-mod Cases
+pub mod Built
+pub mod Steps
+pub mod Cases
 mod Turns
 mod Columned
 mod Columning

@@ -5,15 +5,18 @@ use Rattle.std.proofs.lemmas.List.{append-nil, take_all}
 use Rattle.plan.specs.Fields.{any}
 use Rattle.plan.specs.Functions.{Functions, is_marked, is_total, placement_of}
 use Rattle.plan.specs.Model.{expr_in, exprs_in, no_expr, space}
+use Rattle.plan.specs.Questions.{small_tree}
 use Rattle.plan.specs.Terms.{Expr, arguments, sizes_of}
 use Rattle.plan.specs.Terms.Expr.{call}
 use Rattle.plan.specs.declared.fault.Fault.{Fault}
+use Rattle.lexicon.proofs.Frames.{every-at}
 use Rattle.rewriting.specs.Outlay.{tree_space}
 use Rattle.rewriting.specs.Routing
 use Rattle.rewriting.specs.Routing.{Side, routing_extract, routing_extract_all}
 use Rattle.tables.specs.Begun.{TablesBegin}
 use Rattle.tables.specs.Holding.{nodes_of, view_in}
 use Rattle.tables.specs.declared.tables.Tables.{Tables}
+use Rattle.terms.specs.Acceptance.{acceptable}
 use Rattle.terms.specs.Build.{inside_node, numbers_in}
 use Rattle.terms.specs.Views.{numbers_of, tree_for}
 use Rattle.entries.specs.declared.node.ExprId.{ExprId}
@@ -24,6 +27,7 @@ use Rattle.extracting.specs.Owners.{owner_by}
 use Rattle.extracting.specs.Walking.{Answered, BuiltBy, Stopped, Walked, walk_in}
 use Rattle.extracting.specs.declared.extractor.Extractor.{Extractor}
 use Rattle.extracting.specs.declared.inputs.Inputs.{Inputs}
+use Rattle.extracting.proofs.Accepted.{call-small}
 use Rattle.extracting.proofs.Cases.{all-lower, argument-is, argument-lower, as-many, at-call, call-is, no-totals, walk-same}
 use Rattle.extracting.proofs.Growing.{tree-stays}
 use Rattle.extracting.proofs.Moving.{given-back}
@@ -107,8 +111,10 @@ module _ (t : Tables) (is : Inputs) (e n : ℕ) (run : Run) (given : List ExprId
       pub call-here : expr_in (view_in u).trees e ≡ call n (arguments (exprs_in (view_in u).trees (numbers_of given)))
       call-here = tree-stays t u k.grows e present ∙ call-is t is e n run given x h inside given-is present ∙ ap (λ l. call n (arguments l)) (sym given-stays)
 
-      pub made-small : sizes_of (arguments done) ≤ sizes_of (arguments (exprs_in (view_in u).trees (numbers_of given)))
-      made-small = omega (arith, all-small F own ts (extractor_of (view_in t) x), ap (λ l. sizes_of (arguments l)) done-is, ap (λ l. sizes_of (arguments l)) given-stays)
+      pub made-small : small_tree (call n (arguments done)) ≡ true
+      made-small =
+          call-small F (expr_in (view_in t).trees e) n ts done (call-is t is e n run given x h inside given-is present) (every-at (acceptable F) (view_in t).trees e no_expr present t.terms.accepted)
+          (omega (arith, all-small F own ts (extractor_of (view_in t) x), ap (λ l. sizes_of (arguments l)) done-is))
 
       pub made-no-total : any (is_total (view_in u).functions) done ≡ false
       made-no-total = ap₂ (λ fs l. any (is_total fs) l) k.grows.functions (sym done-is) ∙ all-no-total F own ts (extractor_of (view_in t) x) (no-totals t is e n run given x h inside given-is present)
