@@ -10,16 +10,38 @@ ghost use Rattle.plan.specs.Terms.Expr.{alias as alias_tree, call as call_tree, 
 ghost use Rattle.plan.specs.Terms.{arguments};
 ghost use Rattle.rewriting.specs.Generated.{countable, generated};
 ghost use Rattle.rewriting.specs.Outlay.{tree_space};
-ghost use Rattle.std.specs.Prelude.{◌≡◌, ◌+◌, ◌<◌, ◌≤◌, true, false, length, IfOk, Ok};
+ghost use Rattle.std.specs.Prelude.{◌≡◌, ◌+◌, ◌<◌, ◌≤◌, true, false, ◌&&◌, length, nat_eq, IfOk, Ok};
 ghost use Rattle.tables.specs.Begun.{TablesBegin};
 ghost use Rattle.tables.specs.Holding.{view_in};
 ghost use Rattle.entries.specs.Spans.{stored_field, stored_in};
-ghost use Rattle.terms.specs.Views.{numbers_of};
+ghost use Rattle.terms.specs.Build.{numbers_in};
+ghost use Rattle.terms.specs.Views.{numbers_of, view_of};
 
-use entries::node::{ExprId, StoredField};
+use entries::listed::Listed;
+use entries::node::{ExprId, Run, StoredField};
 use numbering::alias::generated;
 use plan::fault::Fault;
+use table::table::Table;
 use tables::tables::Tables;
+use terms::terms::Terms;
+
+/// The arguments of a call, apart from the tables.
+pub fn arguments_of(terms: &Terms, run: Run) -> Table<ExprId, 4>
+    requires inside { run.first + run.count ≤ length (view_of terms.now).entries }
+    requires few { run.count ≤ 4 }
+    ensures { numbers_of result ≡ numbers_in (view_of terms.now).entries run.first run.count }
+{
+    let mut given = Table::new(ExprId(0));
+    given.push_each(terms.entries(run), ExprId::read);
+    given
+}
+
+/// Whether nothing changed so far, and this argument did not either.
+pub fn still_same(same: bool, part: ExprId, argument: ExprId) -> bool
+    ensures { result ≡ (same && nat_eq part.0 argument.0) }
+{
+    same && part.0 == argument.0
+}
 
 /// A reference to the alias of a number.
 pub(crate) fn alias_column(tables: &mut Tables, alias: u32) -> Result<ExprId, Fault>

@@ -1,0 +1,65 @@
+//! An expression over a Projection's fields as one over its input's: what is behind a field stands in for each reference to it.
+ghost use Rattle.merging.specs.Replacing.{MapIn, map_of, replaced};
+ghost use Rattle.plan.specs.Terms.Expr.{reference as reference_tree};
+ghost use Rattle.plan.specs.Terms.{size_of};
+ghost use Rattle.std.specs.Prelude.{◌≡◌, ◌<◌, ◌≤◌, min, true, length};
+ghost use Rattle.entries.specs.Spans.{stored_field, stored_in};
+ghost use Rattle.terms.specs.Views.{count, tree_of, view_of};
+
+use entries::listed::Listed;
+use entries::node::{ExprId, ExprNode, StoredField};
+use routing::seeking::seek;
+use terms::terms::Terms;
+
+/// Fields, and at the same places what stands in for them.
+#[derive(Clone, Copy)]
+pub struct ReplaceMap<'a> {
+    pub fields: &'a [StoredField],
+    pub behind: &'a [ExprId],
+}
+
+impl ReplaceMap<'_> {
+    /// What stands in for a reference `e` to a field; `e` itself where it may mean none of the fields.
+    fn stand_in(self, terms: &Terms, e: ExprId, field: StoredField) -> ExprId
+        requires inside { MapIn (view_of terms.now) self }
+        requires present { e.0 < count terms.now }
+        requires stored { stored_in (view_of terms.now).bytes field ≡ true }
+        requires tree { tree_of terms.now e.0 ≡ reference_tree (stored_field (view_of terms.now).bytes field) }
+        ensures tree { tree_of terms.now result.0 ≡ replaced (view_of terms.now) self.entry e.0 }
+        ensures present { result.0 < count terms.now }
+    {
+        let place = seek(terms, self.fields, field);
+        if place < self.behind.len() {
+            self.behind[place]
+        } else {
+            e
+        }
+    }
+}
+
+/// A size as it is up to 256; above that only that it is above.
+fn capped(size: u32) -> u32
+    ensures { result ≡ min size 257 }
+{
+    size.min(257)
+}
+
+/// How large an expression becomes when its columns are replaced; 257 where it is more than 256.
+pub fn replaced_size(terms: &Terms, map: ReplaceMap<'_>, e: ExprId) -> u32
+    requires inside { MapIn (view_of terms.now) map }
+    requires present { e.0 < count terms.now }
+    ensures { result ≡ min (size_of (replaced (view_of terms.now) map.entry e.0)) 257 }
+{
+    match terms.node(e) {
+        ExprNode::Constant(_) => 1,
+        ExprNode::Reference(field) => capped(terms.size(map.stand_in(terms, e, field))),
+        ExprNode::Alias { inner, .. } => capped(replaced_size(terms, map, inner) + 1),
+        ExprNode::Call { arguments, .. } => {
+            let mut size = 1;
+            for entry in terms.entries(arguments) {
+                size = capped(size + replaced_size(terms, map, ExprId::read(*entry)));
+            }
+            size
+        }
+    }
+}
