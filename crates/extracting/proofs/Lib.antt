@@ -6,6 +6,7 @@ pub mod Growing
 mod Entered
 pub mod Built
 pub mod Steps
+pub mod Arguments
 pub mod Cases
 mod Turns
 mod Columned
