@@ -1,1 +1,3 @@
 pub mod Replaced
+pub mod Following
+pub mod Partly

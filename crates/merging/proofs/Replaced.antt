@@ -1,9 +1,9 @@
 -- What replacing its columns makes of an expression: case by case, over the tables, its size, and whether it is a total.
-use Rattle.std.proofs.Common.{◌≡◌, ℕ, zero, suc, ◌+◌, ◌<◌, ◌≤◌, Bool, true, false, ◌||◌, List, [], ◌∷◌, map, length, get_or, drop, sym, refl, ap, ap₂, ◌∙◌, arith}
+use Rattle.std.proofs.Common.{◌≡◌, ℕ, zero, suc, ◌+◌, ◌<◌, ◌≤◌, Bool, true, false, ◌||◌, List, [], ◌∷◌, map, length, get_or, drop, sym, refl, ap, ◌∙◌, arith}
 use Rattle.std.proofs.lemmas.List.{at_drop_all, at_drop_more, get_or-map, get_or_past, length-map}
 use Rattle.plan.specs.Fields.{any}
 use Rattle.plan.specs.Functions.{Functions, is_total}
-use Rattle.plan.specs.Model.{expr_in, exprs_in, no_expr}
+use Rattle.plan.specs.Model.{expr_in, exprs_in}
 use Rattle.plan.specs.Terms.{Expr, Field, Literal, arguments, size_of, sizes_of}
 use Rattle.plan.specs.Terms.Expr.{alias, call, literal, reference}
 use Rattle.plan.specs.Terms.Exprs.{more}

@@ -1,13 +1,13 @@
-use Rattle.std.proofs.Common.{◌≡◌, ◌+◌, ◌<◌, ◌≤◌, min, length, sym, ap, ◌∙◌, arith}
+use Rattle.std.proofs.Common.{◌<◌, length, ap, arith}
 use Rattle.plan.specs.Model.{expr_in, no_expr}
 use Rattle.plan.specs.Terms.{size_of}
 use Rattle.entries.specs.Spans.{literal_at, stored_field}
 use Rattle.entries.specs.declared.node.Entry.{Entry}
 use Rattle.entries.specs.declared.node.Entry.TheVariants.{Expression}
 use Rattle.terms.proofs.Walks.{argument, call-of, entry_trees, long, lower}
-use Rattle.terms.specs.Views.{tree_of, view_of}
+use Rattle.terms.specs.Views.{view_of}
 use Rattle.merging.specs.Replacing.{map_of}
-use Rattle.merging.proofs.Replaced.{rep, rep-alias, rep-call, rep-literal, sizes, sizes-end, sizes-turn}
+use Rattle.merging.proofs.Replaced.{rep, rep-alias, rep-call, rep-literal, sizes-end, sizes-turn}
 use Rattle.merging.proofs.replacing.+replaced_size.Goals as goal
 
 abbrev blank : Entry
