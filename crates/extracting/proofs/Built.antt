@@ -48,7 +48,7 @@ reused-built t u e (Ok r) low a =
 reused-built t u e (Err f) low a = (a.1, a.0)
 
 module _ (t u : Tables) (c : Call) (e : Expr) (new : new_exprs (model_of t) c ≡ e ∷ []) (number : number_of_new (model_of t) c ≡ length (model_of t).exprs) (no-plans : new_plans (model_of t) c ≡ []) (no-inputs : new_inputs c ≡ []) where
-  made-built : (n r : ℕ) → highest 0 (expr_names e) < max n (next_number (model_of t)) → Made (model_of t) c r (model_of u) → Built t (outlay (model_of t) c) n e r u
+  pub made-built : (n r : ℕ) → highest 0 (expr_names e) < max n (next_number (model_of t)) → Made (model_of t) c r (model_of u) → Built t (outlay (model_of t) c) n e r u
   made-built n r low a =
       let x = a.exprs ∙ ap (λ l. (model_of t).exprs ++ l) new in
       let g = made-grows (model_of t) c r (model_of u) a no-plans no-inputs in
@@ -61,7 +61,7 @@ module _ (t u : Tables) (c : Call) (e : Expr) (new : new_exprs (model_of t) c �
       }
 
 -- where all other questions are answered yes, a refusal is for space
-only-space : (b : Bool) (f : Fault) → cond b None (Some SpaceQuestion) ≡ Some f.question → f ≡ refusal f.question → (f ≡ refusal SpaceQuestion) × (b ≡ false)
+pub only-space : (b : Bool) (f : Fault) → cond b None (Some SpaceQuestion) ≡ Some f.question → f ≡ refusal f.question → (f ≡ refusal SpaceQuestion) × (b ≡ false)
 only-space true f h k = absurd (let z : ◌≡◌ {A = ℕ} 0 1 = cc in omega arith)
 only-space false f h k = let q : f.question ≡ SpaceQuestion = cc in (k ∙ ap refusal q, refl)
 

@@ -1,3 +1,5 @@
 pub mod Replaced
 pub mod Following
 pub mod Partly
+pub mod Joined
+pub mod Aliased

@@ -1,1 +1,2 @@
 pub mod Replacing
+pub mod Joining
