@@ -1,8 +1,8 @@
 -- One expression made after another, and a map over tables that grow.
-use Rattle.std.proofs.Common.{◌≡◌, ℕ, ◌<◌, true, false, map, length, Ok, Err, Result, ap, ap₂, ◌∙◌, arith}
+use Rattle.std.proofs.Common.{◌≡◌, ℕ, ◌<◌, ◌≤◌, true, false, map, length, Ok, Err, Result, ap, ap₂, ◌∙◌, arith}
 use Rattle.plan.specs.Fields.{any, every}
 use Rattle.plan.specs.Functions.{is_total}
-use Rattle.plan.specs.Model.{Space, expr_in, plus}
+use Rattle.plan.specs.Model.{Model, Space, expr_in, plus}
 use Rattle.plan.specs.Terms.{Expr, Field}
 use Rattle.plan.specs.Terms.Expr.{alias}
 use Rattle.rewriting.specs.Outlay.{tree_space}
@@ -10,10 +10,10 @@ use Rattle.plan.specs.declared.fault.Fault.{Fault}
 use Rattle.entries.specs.Spans.{stored_field, stored_in}
 use Rattle.entries.specs.declared.node.ExprId.{ExprId}
 use Rattle.extracting.proofs.Growing.{grows-at-once, grows-then, longer}
-use Rattle.extracting.proofs.Numbers.{numbered-built, numbered-here}
+use Rattle.extracting.proofs.Numbers.{numbered-here}
 use Rattle.extracting.proofs.Spaces.{AtMost, alias-space, no-room, within-same, within-then, within_more}
 use Rattle.extracting.proofs.Steps.{below-more, exprs-stay}
-use Rattle.extracting.specs.Walking.{Built, BuiltBy, Grows, NoRoom}
+use Rattle.extracting.specs.Walking.{Built, BuiltBy, Grows, NoRoom, Numbered}
 use Rattle.stepping.proofs.Chain.{fits-no-more}
 use Rattle.tables.specs.Holding.{model_of, view_in}
 use Rattle.tables.specs.declared.tables.Tables.{Tables}
@@ -26,13 +26,16 @@ use Rattle.merging.specs.declared.replacing.ReplaceMap.{ReplaceMap}
 pub itself : (t : Tables) (o : Space) (n : ℕ) (e : Expr) (r : ℕ) → r < length (view_in t).trees → expr_in (view_in t).trees r ≡ e → Built t o n e r t
 itself t o n e r present tree = record { present = present; tree = tree; grows = grows-at-once (model_of t); numbers = numbered-here (model_of t) n; spent = within-same (model_of t).used o }
 
+pub numbered-both : (a b c : Model) (n : ℕ) → Numbered a n b → Numbered b n c → Numbered a n c
+numbered-both a b c n g h k l le = h k (g k l le) le
+
 -- the expression d, and then e of it
-pub built-then : (t u w : Tables) (p q o : Space) (n : ℕ) (d e : Expr) (made : ℕ) (r : Result ExprId Fault) → AtMost (plus p q) o → Built t p n d made u → BuiltBy u q 0 e r w → BuiltBy t o n e r w
+pub built-then : (t u w : Tables) (p q o : Space) (n : ℕ) (d e : Expr) (made : ℕ) (r : Result ExprId Fault) → AtMost (plus p q) o → Built t p n d made u → BuiltBy u q n e r w → BuiltBy t o n e r w
 built-then t u w p q o n d e made (Ok r) le a b = record {
   present = b.present;
   tree = b.tree;
   grows = grows-then (model_of t) (model_of u) (model_of w) a.grows b.grows;
-  numbers = numbered-built (model_of t) (model_of u) (model_of w) n a.numbers b.numbers;
+  numbers = numbered-both (model_of t) (model_of u) (model_of w) n a.numbers b.numbers;
   spent = within_more (model_of t).used (plus p q) o (model_of w).used (within-then (model_of t).used p (model_of u).used q (model_of w).used a.spent b.spent) le;
 }
 built-then t u w p q o n d e made (Err f) le a b = (b.0, no-room (model_of t).used p (model_of u).used q o a.spent le b.1)

@@ -3,3 +3,4 @@ pub mod Following
 pub mod Partly
 pub mod Joined
 pub mod Aliased
+pub mod Pairing

@@ -1,21 +1,33 @@
 //! Pairs and needed columns merged into a Projection.
+ghost use Rattle.extracting.specs.Extractors.{entry_in};
 ghost use Rattle.extracting.specs.Walking.{BuiltBy};
-ghost use Rattle.plan.specs.Model.{expr_in, space};
+ghost use Rattle.merging.specs.Merging.{GatheredBy, pair_in, pair_of};
+ghost use Rattle.merging.specs.Replacing.{MapIn, map_of};
+ghost use Rattle.plan.specs.Calls.{all_below};
+ghost use Rattle.plan.specs.Fields.{any};
+ghost use Rattle.plan.specs.Functions.{is_total};
+ghost use Rattle.plan.specs.Model.{expr_in, exprs_in, space};
 ghost use Rattle.plan.specs.Rendering.{unqualified_field};
 ghost use Rattle.plan.specs.Terms.Expr.{alias as alias_tree};
 ghost use Rattle.plan.specs.Terms.{size_of};
+ghost use Rattle.rewriting.specs.Extracting.{add_pair};
 ghost use Rattle.rewriting.specs.Generated.{countable, generated};
+ghost use Rattle.rewriting.specs.Outlay.{tree_space};
 ghost use Rattle.rewriting.specs.Routing.{same_side, unalias};
 ghost use Rattle.routing.specs.Sides.{side_of};
-ghost use Rattle.std.specs.Prelude.{◌≡◌, ◌+◌, ◌<◌, ◌≤◌, true, length};
+ghost use Rattle.std.specs.Prelude.{◌≡◌, ◌+◌, ◌<◌, ◌≤◌, true, false, length};
 ghost use Rattle.tables.specs.Begun.{TablesBegin};
 ghost use Rattle.tables.specs.Holding.{view_in};
-ghost use Rattle.terms.specs.Views.{count, tree_of, view_of};
+ghost use Rattle.terms.specs.Views.{count, numbers_of, tree_of, view_of};
 
+use crate::joining::{add_pair, too_large};
+use crate::replacing::{ReplaceMap, replace_cols_by_name, replaced_size};
 use entries::node::{ExprId, ExprNode};
+use extracting::extractor::Extracted;
 use numbering::alias::generated;
 use plan::fault::Fault;
 use routing::owning::Side;
+use table::table::Table;
 use tables::tables::Tables;
 use terms::terms::Terms;
 
@@ -54,4 +66,29 @@ fn aliased(tables: &mut Tables, e: ExprId, alias: u32) -> Result<ExprId, Fault>
     ensures begins { TablesBegin tables.old tables.new }
 {
     tables.alias(e, &generated(alias), None)
+}
+
+/// Merges a pair into a list: what was taken out, as an expression over the Projection's input, under its alias.
+fn merge_pair(
+    tables: &mut Tables,
+    map: ReplaceMap<'_>,
+    entry: Extracted,
+    list: &mut Table<ExprId, 64>,
+) -> Result<(), Fault>
+    requires inside { MapIn (view_in tables.old) map }
+    requires totals { any (is_total (view_in tables.old).functions) (map_of (view_in tables.old) map).1 ≡ false }
+    requires entry { entry_in (view_in tables.old) entry ≡ true }
+    requires list { all_below (length (view_in tables.old).trees) (numbers_of list.old) ≡ true }
+    requires few { length list.old ≤ 64 }
+    ensures answer { GatheredBy tables.old (tree_space (pair_in (map_of (view_in tables.old) map.entry) (pair_of (view_in tables.old) entry))) (entry.alias + 1) (add_pair (pair_in (map_of (view_in tables.old) map.entry) (pair_of (view_in tables.old) entry)) (exprs_in (view_in tables.old).trees (numbers_of list.old))) result list.new tables.new }
+    ensures begins { TablesBegin tables.old tables.new }
+{
+    let inner = unaliased(tables.terms(), entry.inner);
+    // The alias would have more than 256 nodes, as no expression of the book has: it joins, and the list is too large.
+    if replaced_size(tables.terms(), map, inner) > 255 {
+        return Err(too_large());
+    }
+    let made = replace_cols_by_name(tables, map, inner)?;
+    let alias = aliased(tables, made, entry.alias)?;
+    add_pair(tables.terms(), list, alias)
 }

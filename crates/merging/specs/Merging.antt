@@ -1,0 +1,55 @@
+-- Pairs and needed columns that are merged into a list; cited by src/merge.rt.
+--     pair_of v d      what was taken out, less one alias, and its alias
+--     pair_in m p      a pair as an expression over the input, where m has what is behind the fields
+--     pairs_in m ps acc      the list acc with pairs, as `add_pairs` has it
+--     columns_in F ins m cs acc      the list with needed columns, as `add_columns` has it
+--     Gathered t o low es ids t'      ids stand for es; no more than the places o were used, and no number came from low on
+--     Stopped t o es f      the places o do not fit, or es are past the limits
+--     GatheredBy t o low es r ids t'      either
+use Rattle.std.specs.Prelude.{◌≡◌, ℕ, ◌≤◌, true, false, ◌⊎◌, List, [], ◌∷◌, length, Ok, Err, Result}
+use Rattle.plan.specs.Calls.{all_below}
+use Rattle.plan.specs.Functions.{Functions}
+use Rattle.plan.specs.Model.{Space, Within, expr_in, exprs_in}
+use Rattle.plan.specs.Rendering.{unqualified_field}
+use Rattle.plan.specs.Terms.{Expr, Field}
+use Rattle.plan.specs.Terms.Expr.{alias, reference}
+use Rattle.plan.specs.declared.fault.Fault.{Fault}
+use Rattle.rewriting.specs.Extracting.{ReplaceMap, add_column, add_pair, replace_cols_by_name}
+use Rattle.rewriting.specs.Generated.{generated}
+use Rattle.rewriting.specs.Routing.{Pair, unalias}
+use Rattle.entries.specs.declared.node.ExprId.{ExprId}
+use Rattle.extracting.specs.Walking.{Grows, NoRoom, Numbered}
+use Rattle.extracting.specs.declared.extractor.Extracted.{Extracted}
+use Rattle.tables.specs.Holding.{model_of, view_in}
+use Rattle.tables.specs.declared.tables.Tables.{Tables}
+use Rattle.terms.specs.Views.{View, numbers_of}
+use Rattle.merging.specs.Joining.{too_large, within_limits}
+
+abbrev pub pair_of : View → Extracted → Pair
+pair_of v d = (unalias (expr_in v.trees d.inner.0), generated d.alias)
+
+abbrev pub pair_in : ReplaceMap → Pair → Expr
+pair_in m p = alias (replace_cols_by_name m p.0) (unqualified_field p.1)
+
+unfoldable pub pairs_in : ReplaceMap → List Pair → List Expr → List Expr
+pairs_in m [] acc = acc
+pairs_in m (p ∷ ps) acc = pairs_in m ps (add_pair (pair_in m p) acc)
+
+unfoldable pub columns_in : Functions → List Field → ReplaceMap → List Field → List Expr → List Expr
+columns_in F ins m [] acc = acc
+columns_in F ins m (c ∷ cs) acc = columns_in F ins m cs (add_column F ins (replace_cols_by_name m (reference c)) acc)
+
+pub record Gathered (t : Tables) (o : Space) (low : ℕ) (es : List Expr) (ids : List ExprId) (t' : Tables) : Type 0 where
+  pub present : all_below (length (view_in t').trees) (numbers_of ids) ≡ true
+  pub trees : exprs_in (view_in t').trees (numbers_of ids) ≡ es
+  pub few : length ids ≤ 64
+  pub grows : Grows (model_of t) (model_of t')
+  pub spent : Within (model_of t).used o (model_of t').used
+  pub numbers : Numbered (model_of t) low (model_of t')
+
+abbrev pub Stopped : Tables → Space → List Expr → Fault → Type 0
+Stopped t o es f = NoRoom t o f ⊎ ((f ≡ too_large) × (within_limits es ≡ false))
+
+abbrev pub GatheredBy : Tables → Space → ℕ → List Expr → Result (Unit {0}) Fault → List ExprId → Tables → Type 0
+GatheredBy t o low es (Ok u) ids t' = Gathered t o low es ids t'
+GatheredBy t o low es (Err f) ids t' = Stopped t o es f
