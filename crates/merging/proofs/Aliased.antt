@@ -1,18 +1,16 @@
 -- An expression under a generated alias.
-use Rattle.std.proofs.Common.{◌≡◌, ℕ, ◌+◌, ◌<◌, ◌≤◌, max, Bool, true, false, cond, List, [], ◌∷◌, ◌++◌, length, Some, None, Ok, Err, Option, Result, sym, refl, ap, ◌∙◌, subst, arith}
+use Rattle.std.proofs.Common.{◌≡◌, ℕ, ◌+◌, ◌<◌, ◌≤◌, max, Bool, true, cond, [], ◌∷◌, length, Some, None, Ok, Err, Result, sym, refl, ap, ◌∙◌, subst, arith}
 use Rattle.std.proofs.lemmas.Bool.{le-leb, lt-ltb}
 use Rattle.numbering.proofs.Highest.{highest-append}
 use Rattle.plan.specs.Calls.Call.{make_alias}
-use Rattle.plan.specs.Calls.{Answers, below, good_alias}
+use Rattle.plan.specs.Calls.{Answers}
 use Rattle.plan.specs.Faults.{first_no}
 use Rattle.plan.specs.Model.{expr_in, fits, space}
 use Rattle.plan.specs.Names.{most_number}
-use Rattle.plan.specs.Questions.{small_tree}
 use Rattle.plan.specs.Rendering.{unqualified_field}
 use Rattle.plan.specs.Terms.{Expr, Field, size_of}
 use Rattle.plan.specs.Terms.Expr.{alias, reference}
 use Rattle.plan.specs.declared.fault.Fault.{Fault}
-use Rattle.plan.specs.declared.fault.Question.{Question}
 use Rattle.plan.specs.declared.fault.Question.TheVariants.{Limited, Named, Present, Space as SpaceQuestion}
 use Rattle.entries.specs.declared.node.ExprId.{ExprId}
 use Rattle.rewriting.proofs.Fresh.{generated-is-good}

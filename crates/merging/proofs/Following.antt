@@ -1,5 +1,5 @@
 -- One expression made after another, and a map over tables that grow.
-use Rattle.std.proofs.Common.{◌≡◌, ℕ, ◌<◌, ◌≤◌, true, false, map, length, Ok, Err, Result, ap, ap₂, ◌∙◌, arith}
+use Rattle.std.proofs.Common.{◌≡◌, ℕ, ◌<◌, true, false, map, length, Ok, Err, Result, ap, ap₂, ◌∙◌, arith}
 use Rattle.plan.specs.Fields.{any, every}
 use Rattle.plan.specs.Functions.{is_total}
 use Rattle.plan.specs.Model.{Model, Space, expr_in, plus}

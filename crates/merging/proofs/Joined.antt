@@ -1,5 +1,5 @@
 -- What joins a list, on trees: a list that is past the limits stays so.
-use Rattle.std.proofs.Common.{◌≡◌, ℕ, ◌+◌, ◌<◌, ◌≤◌, Bool, true, false, cond, not, ◌&&◌, ◌||◌, leb, T, List, [], ◌∷◌, ◌++◌, map, length, eqb, eqb→eq, sym, refl, ap, ap₂, ◌∙◌, arith, length-append}
+use Rattle.std.proofs.Common.{◌≡◌, ℕ, ◌+◌, ◌<◌, ◌≤◌, Bool, true, false, cond, ◌&&◌, ◌||◌, leb, T, List, [], ◌∷◌, ◌++◌, map, length, eqb, refl, ap, ap₂, ◌∙◌, arith, length-append}
 use Rattle.std.proofs.lemmas.Bool.{and_from, and_parts, le-leb, leb-true}
 use mir.Facts.{and_yes}
 use Rattle.plan.specs.Fields.{any, every}

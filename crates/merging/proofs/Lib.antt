@@ -4,3 +4,4 @@ pub mod Partly
 pub mod Joined
 pub mod Aliased
 pub mod Pairing
+pub mod Gathering

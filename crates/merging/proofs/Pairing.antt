@@ -1,7 +1,7 @@
 -- One pair that is merged into a list.
-use Rattle.std.proofs.Common.{◌≡◌, ℕ, ◌+◌, ◌<◌, ◌≤◌, min, Bool, true, false, ltb, List, [], ◌∷◌, ◌++◌, length, sum_by, Ok, Err, Result, inl, inr, sym, refl, ap, ap₂, ◌∙◌, subst, arith}
+use Rattle.std.proofs.Common.{◌≡◌, ℕ, ◌+◌, ◌<◌, min, true, false, List, [], ◌∷◌, length, Ok, Err, Result, inr, refl, ap, ap₂, ◌∙◌, subst, arith}
 use Rattle.std.proofs.lemmas.Bool.{and_from, and_parts, le-leb, ltb-true}
-use Rattle.std.proofs.lemmas.List.Sums.{sum_by-append, sum_by-cons}
+use Rattle.std.proofs.lemmas.List.Sums.{sum_by-cons}
 use Rattle.lexicon.proofs.Frames.{every-at}
 use Rattle.plan.specs.Calls.{all_below, below}
 use Rattle.plan.specs.Fields.{every}
@@ -14,7 +14,7 @@ use Rattle.plan.specs.Terms.Expr.{alias}
 use Rattle.plan.specs.declared.fault.Fault.{Fault}
 use Rattle.rewriting.specs.Extracting
 use Rattle.rewriting.specs.Extracting.{add_pair}
-use Rattle.rewriting.specs.Generated.{expr_names, field_names, generated, qualifier_names}
+use Rattle.rewriting.specs.Generated.{expr_names, field_names, qualifier_names}
 use Rattle.rewriting.specs.Outlay.{entries_of, tree_space}
 use Rattle.rewriting.specs.Routing.{Pair, unalias}
 use Rattle.entries.specs.declared.node.ExprId.{ExprId}

@@ -3,7 +3,7 @@
 --     too_large      the refusal of a list that is past these limits
 --     Listed v es ids      ids stand for the expressions es
 --     ListedBy v es r ids      they do; or es are more than 64
-use Rattle.std.specs.Prelude.{◌≡◌, ℕ, ◌<◌, ◌≤◌, Bool, true, ◌&&◌, List, length, nat_le, Ok, Err, Result}
+use Rattle.std.specs.Prelude.{◌≡◌, ◌<◌, ◌≤◌, Bool, true, ◌&&◌, List, length, nat_le, Ok, Err, Result}
 use Rattle.plan.specs.Calls.{all_below}
 use Rattle.plan.specs.Faults.{fault}
 use Rattle.plan.specs.Fields.{every}

@@ -1,12 +1,14 @@
 -- Pairs and needed columns that are merged into a list; cited by src/merge.rt.
 --     pair_of v d      what was taken out, less one alias, and its alias
 --     pair_in m p      a pair as an expression over the input, where m has what is behind the fields
+--     pairs_at v s d      it, as the only pair; none where it is of another input than s
 --     pairs_in m ps acc      the list acc with pairs, as `add_pairs` has it
 --     columns_in F ins m cs acc      the list with needed columns, as `add_columns` has it
 --     Gathered t o low es ids t'      ids stand for es; no more than the places o were used, and no number came from low on
 --     Stopped t o es f      the places o do not fit, or es are past the limits
 --     GatheredBy t o low es r ids t'      either
-use Rattle.std.specs.Prelude.{◌≡◌, ℕ, ◌≤◌, true, false, ◌⊎◌, List, [], ◌∷◌, length, Ok, Err, Result}
+--     PairsMerged t m ps low before r ids t'      the pairs ps were merged into the list before, or not
+use Rattle.std.specs.Prelude.{◌≡◌, ℕ, ◌≤◌, true, false, ◌⊎◌, List, [], ◌∷◌, map, length, Ok, Err, Result}
 use Rattle.plan.specs.Calls.{all_below}
 use Rattle.plan.specs.Functions.{Functions}
 use Rattle.plan.specs.Model.{Space, Within, expr_in, exprs_in}
@@ -14,28 +16,37 @@ use Rattle.plan.specs.Rendering.{unqualified_field}
 use Rattle.plan.specs.Terms.{Expr, Field}
 use Rattle.plan.specs.Terms.Expr.{alias, reference}
 use Rattle.plan.specs.declared.fault.Fault.{Fault}
-use Rattle.rewriting.specs.Extracting.{ReplaceMap, add_column, add_pair, replace_cols_by_name}
+use Rattle.rewriting.specs.Extracting.{ReplaceMap as TreeMap, add_column, add_pair, replace_cols_by_name}
 use Rattle.rewriting.specs.Generated.{generated}
-use Rattle.rewriting.specs.Routing.{Pair, unalias}
+use Rattle.rewriting.specs.Routing.{Pair, pairs_of, unalias}
+use Rattle.routing.specs.Sides.{side_of}
+use Rattle.routing.specs.declared.owning.Side.{Side}
 use Rattle.entries.specs.declared.node.ExprId.{ExprId}
+use Rattle.extracting.specs.Extractors.{entry_of}
 use Rattle.extracting.specs.Walking.{Grows, NoRoom, Numbered}
 use Rattle.extracting.specs.declared.extractor.Extracted.{Extracted}
 use Rattle.tables.specs.Holding.{model_of, view_in}
 use Rattle.tables.specs.declared.tables.Tables.{Tables}
 use Rattle.terms.specs.Views.{View, numbers_of}
+use Rattle.rewriting.specs.Outlay.{list_space}
 use Rattle.merging.specs.Joining.{too_large, within_limits}
+use Rattle.merging.specs.Replacing.{map_of}
+use Rattle.merging.specs.declared.replacing.ReplaceMap.{ReplaceMap}
 
 abbrev pub pair_of : View → Extracted → Pair
 pair_of v d = (unalias (expr_in v.trees d.inner.0), generated d.alias)
 
-abbrev pub pair_in : ReplaceMap → Pair → Expr
+abbrev pub pairs_at : View → Side → Extracted → List Pair
+pairs_at v s d = pairs_of (side_of s) (entry_of v d ∷ [])
+
+abbrev pub pair_in : TreeMap → Pair → Expr
 pair_in m p = alias (replace_cols_by_name m p.0) (unqualified_field p.1)
 
-unfoldable pub pairs_in : ReplaceMap → List Pair → List Expr → List Expr
+unfoldable pub pairs_in : TreeMap → List Pair → List Expr → List Expr
 pairs_in m [] acc = acc
 pairs_in m (p ∷ ps) acc = pairs_in m ps (add_pair (pair_in m p) acc)
 
-unfoldable pub columns_in : Functions → List Field → ReplaceMap → List Field → List Expr → List Expr
+unfoldable pub columns_in : Functions → List Field → TreeMap → List Field → List Expr → List Expr
 columns_in F ins m [] acc = acc
 columns_in F ins m (c ∷ cs) acc = columns_in F ins m cs (add_column F ins (replace_cols_by_name m (reference c)) acc)
 
@@ -53,3 +64,8 @@ Stopped t o es f = NoRoom t o f ⊎ ((f ≡ too_large) × (within_limits es ≡ 
 abbrev pub GatheredBy : Tables → Space → ℕ → List Expr → Result (Unit {0}) Fault → List ExprId → Tables → Type 0
 GatheredBy t o low es (Ok u) ids t' = Gathered t o low es ids t'
 GatheredBy t o low es (Err f) ids t' = Stopped t o es f
+
+abbrev pub PairsMerged : Tables → ReplaceMap → List Pair → ℕ → List ExprId → Result (Unit {0}) Fault → List ExprId → Tables → Type 0
+PairsMerged t m ps low before r ids t' =
+    let k = map_of (view_in t) m in
+    GatheredBy t (list_space (map (pair_in k) ps)) low (pairs_in k ps (exprs_in (view_in t).trees (numbers_of before))) r ids t'

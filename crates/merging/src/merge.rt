@@ -1,7 +1,7 @@
 //! Pairs and needed columns merged into a Projection.
-ghost use Rattle.extracting.specs.Extractors.{entry_in};
+ghost use Rattle.extracting.specs.Extractors.{Inside, entry_in};
 ghost use Rattle.extracting.specs.Walking.{BuiltBy};
-ghost use Rattle.merging.specs.Merging.{GatheredBy, pair_in, pair_of};
+ghost use Rattle.merging.specs.Merging.{GatheredBy, PairsMerged, pair_in, pair_of, pairs_at};
 ghost use Rattle.merging.specs.Replacing.{MapIn, map_of};
 ghost use Rattle.plan.specs.Calls.{all_below};
 ghost use Rattle.plan.specs.Fields.{any};
@@ -16,6 +16,7 @@ ghost use Rattle.rewriting.specs.Outlay.{tree_space};
 ghost use Rattle.rewriting.specs.Routing.{same_side, unalias};
 ghost use Rattle.routing.specs.Sides.{side_of};
 ghost use Rattle.std.specs.Prelude.{◌≡◌, ◌+◌, ◌<◌, ◌≤◌, true, false, length};
+ghost use Rattle.stepping.specs.Lists.{at_side};
 ghost use Rattle.tables.specs.Begun.{TablesBegin};
 ghost use Rattle.tables.specs.Holding.{view_in};
 ghost use Rattle.terms.specs.Views.{count, numbers_of, tree_of, view_of};
@@ -23,7 +24,7 @@ ghost use Rattle.terms.specs.Views.{count, numbers_of, tree_of, view_of};
 use crate::joining::{add_pair, too_large};
 use crate::replacing::{ReplaceMap, replace_cols_by_name, replaced_size};
 use entries::node::{ExprId, ExprNode};
-use extracting::extractor::Extracted;
+use extracting::extractor::{Extracted, Extractor};
 use numbering::alias::generated;
 use plan::fault::Fault;
 use routing::owning::Side;
@@ -71,24 +72,68 @@ fn aliased(tables: &mut Tables, e: ExprId, alias: u32) -> Result<ExprId, Fault>
 /// Merges a pair into a list: what was taken out, as an expression over the Projection's input, under its alias.
 fn merge_pair(
     tables: &mut Tables,
-    map: ReplaceMap<'_>,
+    replacing: ReplaceMap<'_>,
     entry: Extracted,
     list: &mut Table<ExprId, 64>,
 ) -> Result<(), Fault>
-    requires inside { MapIn (view_in tables.old) map }
-    requires totals { any (is_total (view_in tables.old).functions) (map_of (view_in tables.old) map).1 ≡ false }
+    requires inside { MapIn (view_in tables.old) replacing }
+    requires totals { any (is_total (view_in tables.old).functions) (map_of (view_in tables.old) replacing).1 ≡ false }
     requires entry { entry_in (view_in tables.old) entry ≡ true }
     requires list { all_below (length (view_in tables.old).trees) (numbers_of list.old) ≡ true }
     requires few { length list.old ≤ 64 }
-    ensures answer { GatheredBy tables.old (tree_space (pair_in (map_of (view_in tables.old) map.entry) (pair_of (view_in tables.old) entry))) (entry.alias + 1) (add_pair (pair_in (map_of (view_in tables.old) map.entry) (pair_of (view_in tables.old) entry)) (exprs_in (view_in tables.old).trees (numbers_of list.old))) result list.new tables.new }
+    ensures answer { GatheredBy tables.old (tree_space (pair_in (map_of (view_in tables.old) replacing.entry) (pair_of (view_in tables.old) entry))) (entry.alias + 1) (add_pair (pair_in (map_of (view_in tables.old) replacing.entry) (pair_of (view_in tables.old) entry)) (exprs_in (view_in tables.old).trees (numbers_of list.old))) result list.new tables.new }
     ensures begins { TablesBegin tables.old tables.new }
 {
     let inner = unaliased(tables.terms(), entry.inner);
     // The alias would have more than 256 nodes, as no expression of the book has: it joins, and the list is too large.
-    if replaced_size(tables.terms(), map, inner) > 255 {
+    if replaced_size(tables.terms(), replacing, inner) > 255 {
         return Err(too_large());
     }
-    let made = replace_cols_by_name(tables, map, inner)?;
+    let made = replace_cols_by_name(tables, replacing, inner)?;
     let alias = aliased(tables, made, entry.alias)?;
     add_pair(tables.terms(), list, alias)
+}
+
+/// The same for a pair that may be of the other input, which is then left out.
+fn merge_entry(
+    tables: &mut Tables,
+    replacing: ReplaceMap<'_>,
+    entry: Extracted,
+    side: Side,
+    list: &mut Table<ExprId, 64>,
+) -> Result<(), Fault>
+    requires inside { MapIn (view_in tables.old) replacing }
+    requires totals { any (is_total (view_in tables.old).functions) (map_of (view_in tables.old) replacing).1 ≡ false }
+    requires entry { entry_in (view_in tables.old) entry ≡ true }
+    requires list { all_below (length (view_in tables.old).trees) (numbers_of list.old) ≡ true }
+    requires few { length list.old ≤ 64 }
+    ensures answer { PairsMerged tables.old replacing.entry (pairs_at (view_in tables.old) side entry) (entry.alias + 1) list.old result list.new tables.new }
+    ensures begins { TablesBegin tables.old tables.new }
+{
+    if !is_same(entry.side, side) {
+        return Ok(());
+    }
+    merge_pair(tables, replacing, entry, list)
+}
+
+/// Merges the pairs of an input into a list, in the order in which they were found.
+fn add_pairs(
+    tables: &mut Tables,
+    replacing: ReplaceMap<'_>,
+    extractor: &Extractor,
+    side: Side,
+    list: &mut Table<ExprId, 64>,
+) -> Result<(), Fault>
+    requires inside { MapIn (view_in tables.old) replacing }
+    requires totals { any (is_total (view_in tables.old).functions) (map_of (view_in tables.old) replacing).1 ≡ false }
+    requires extractor { Inside (view_in tables.old) extractor.now }
+    requires list { all_below (length (view_in tables.old).trees) (numbers_of list.old) ≡ true }
+    requires few { length list.old ≤ 64 }
+    ensures answer { PairsMerged tables.old replacing.entry (at_side (view_in tables.old) extractor.now side) extractor.now.next list.old result list.new tables.new }
+    ensures begins { TablesBegin tables.old tables.new }
+{
+    for entry in extractor.entries() {
+        merge_entry(tables, replacing, *entry, side, list)?;
+    }
+    Ok(())
 }

@@ -1,4 +1,4 @@
-use Rattle.std.proofs.Common.{◌≤◌, subst}
+use Rattle.std.proofs.Common.{subst}
 use Rattle.std.proofs.lemmas.Bool.{leb-true}
 use Rattle.plan.specs.Calls.Call.{make_alias}
 use Rattle.plan.specs.Calls.{Answers}

@@ -19,8 +19,8 @@ returns-then-replaced_size-gt255-clause-answer c =
     let t = c.args.tables.now in
     let i = c.unaliased-inner.result.0 in
     let is = subst (λ m. tree_of m i ≡ unalias (tree_of m c.args.entry.inner.0)) c.terms.ensures c.unaliased-inner.ensures.tree in
-    let size = subst (λ m. c.replaced_size.result ≡ min (size_of (replaced (view_of m) c.args.map i)) 257) c.terms-2.ensures c.replaced_size.ensures in
-    inr (c.too_large.ensures, refused-size t c.args.map c.args.entry i is c.args.list.now c.requires.list c.replaced_size.result size c.if-replaced_size-gt255.true)
+    let size = subst (λ m. c.replaced_size.result ≡ min (size_of (replaced (view_of m) c.args.replacing i)) 257) c.terms-2.ensures c.replaced_size.ensures in
+    inr (c.too_large.ensures, refused-size t c.args.replacing c.args.entry i is c.args.list.now c.requires.list c.replaced_size.result size c.if-replaced_size-gt255.true)
 
 pub returns-in_err-made-clause-answer : goal.returns-in_err-made-clause-answer
 returns-in_err-made-clause-answer c =
@@ -28,11 +28,11 @@ returns-in_err-made-clause-answer c =
     let v = view_in t in
     let i = c.unaliased-inner.result.0 in
     let is = subst (λ m. tree_of m i ≡ unalias (tree_of m c.args.entry.inner.0)) c.terms.ensures c.unaliased-inner.ensures.tree in
-    let a = pair_in (map_of v c.args.map) (pair_of v c.args.entry) in
+    let a = pair_in (map_of v c.args.replacing) (pair_of v c.args.entry) in
     let d = c.in_err-made.field-0.0 in
     let e : c.from_residual.result ≡ Err d = search rules in
     subst (λ q. GatheredBy t (tree_space a) (c.args.entry.alias + 1) (add_pair a (exprs_in v.trees (numbers_of c.args.list.now))) q c.args.list.now c.replace_cols_by_name.new.tables) (sym e)
-    (inl (refused-inner t c.args.map c.args.entry i is c.args.list.now c.requires.list d c.in_err-made.ensures.answer))
+    (inl (refused-inner t c.args.replacing c.args.entry i is c.args.list.now c.requires.list d c.in_err-made.ensures.answer))
 
 pub returns-in_err-alias-clause-answer : goal.returns-in_err-alias-clause-answer
 returns-in_err-alias-clause-answer c =
@@ -40,11 +40,11 @@ returns-in_err-alias-clause-answer c =
     let v = view_in t in
     let i = c.unaliased-inner.result.0 in
     let is = subst (λ m. tree_of m i ≡ unalias (tree_of m c.args.entry.inner.0)) c.terms.ensures c.unaliased-inner.ensures.tree in
-    let a = pair_in (map_of v c.args.map) (pair_of v c.args.entry) in
+    let a = pair_in (map_of v c.args.replacing) (pair_of v c.args.entry) in
     let d = c.in_err-alias.field-0.0 in
     let e : c.from_residual-in_err-alias.result ≡ Err d = search rules in
     subst (λ q. GatheredBy t (tree_space a) (c.args.entry.alias + 1) (add_pair a (exprs_in v.trees (numbers_of c.args.list.now))) q c.args.list.now c.aliased.new.tables) (sym e)
-    (inl (alias-answer t c.args.map c.args.entry i is c.args.list.now c.requires.list c.replace_cols_by_name.new.tables c.aliased.new.tables c.in_ok-made.made.0 (Err d) c.in_ok-made.ensures.answer c.in_err-alias.ensures.answer))
+    (inl (alias-answer t c.args.replacing c.args.entry i is c.args.list.now c.requires.list c.replace_cols_by_name.new.tables c.aliased.new.tables c.in_ok-made.made.0 (Err d) c.in_ok-made.ensures.answer c.in_err-alias.ensures.answer))
 
 pub returns-in_err-alias-clause-begins : goal.returns-in_err-alias-clause-begins
 returns-in_err-alias-clause-begins c = tables-then c.args.tables.now c.replace_cols_by_name.new.tables c.aliased.new.tables c.in_ok-made.ensures.begins c.in_err-alias.ensures.begins
@@ -55,8 +55,8 @@ add_pair-requires-clause-list c =
     let w = c.aliased.new.tables in
     let i = c.unaliased-inner.result.0 in
     let is = subst (λ m. tree_of m i ≡ unalias (tree_of m c.args.entry.inner.0)) c.terms.ensures c.unaliased-inner.ensures.tree in
-    let b = alias-answer t c.args.map c.args.entry i is c.args.list.now c.requires.list c.replace_cols_by_name.new.tables w c.in_ok-made.made.0 (Ok c.in_ok-alias.alias) c.in_ok-made.ensures.answer c.in_ok-alias.ensures.answer in
-    subst (λ m. all_below (count m) (numbers_of c.args.list.now) ≡ true) (sym c.terms-3.ensures) (list-there t c.args.map c.args.entry i is c.args.list.now c.requires.list w c.in_ok-alias.alias.0 b)
+    let b = alias-answer t c.args.replacing c.args.entry i is c.args.list.now c.requires.list c.replace_cols_by_name.new.tables w c.in_ok-made.made.0 (Ok c.in_ok-alias.alias) c.in_ok-made.ensures.answer c.in_ok-alias.ensures.answer in
+    subst (λ m. all_below (count m) (numbers_of c.args.list.now) ≡ true) (sym c.terms-3.ensures) (list-there t c.args.replacing c.args.entry i is c.args.list.now c.requires.list w c.in_ok-alias.alias.0 b)
 
 pub returns-clause-answer : goal.returns-clause-answer
 returns-clause-answer c =
@@ -64,6 +64,6 @@ returns-clause-answer c =
     let w = c.aliased.new.tables in
     let i = c.unaliased-inner.result.0 in
     let is = subst (λ m. tree_of m i ≡ unalias (tree_of m c.args.entry.inner.0)) c.terms.ensures c.unaliased-inner.ensures.tree in
-    let b = alias-answer t c.args.map c.args.entry i is c.args.list.now c.requires.list c.replace_cols_by_name.new.tables w c.in_ok-made.made.0 (Ok c.in_ok-alias.alias) c.in_ok-made.ensures.answer c.in_ok-alias.ensures.answer in
-    gathered t c.args.map c.args.entry i is c.args.list.now c.requires.list w c.in_ok-alias.alias.0 b c.add_pair.result c.add_pair.new.list
+    let b = alias-answer t c.args.replacing c.args.entry i is c.args.list.now c.requires.list c.replace_cols_by_name.new.tables w c.in_ok-made.made.0 (Ok c.in_ok-alias.alias) c.in_ok-made.ensures.answer c.in_ok-alias.ensures.answer in
+    gathered t c.args.replacing c.args.entry i is c.args.list.now c.requires.list w c.in_ok-alias.alias.0 b c.add_pair.result c.add_pair.new.list
     (subst (λ m. ListedBy (view_of m) (add_pair (tree_of m c.in_ok-alias.alias.0) (exprs_in (view_of m).trees (numbers_of c.args.list.now))) c.add_pair.result c.add_pair.new.list) c.terms-3.ensures c.add_pair.ensures)
