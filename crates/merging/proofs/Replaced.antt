@@ -83,21 +83,24 @@ module _ (F : Functions) (m : Extracting.ReplaceMap) (none : any (is_total F) m.
       go true b c d k f g = absurd (let z : ◌≡◌ {A = ℕ} 0 1 = cc in omega arith)
       go false b c d k f g = ap (λ x. x || d) (f refl) ∙ g k
 
--- over the tables: what stands behind a field, and a reference that may mean none
-module _ (v : View) (m : ReplaceMap) (inside : MapIn v m) (e : ℕ) (f : StoredField) (p : ℕ) (tree : expr_in v.trees e ≡ reference (stored_field v.bytes f)) (place : p ≡ seek (stored_field v.bytes f) (map (stored_field v.bytes) m.fields.now)) where
-  stands : replaced v m e ≡ get_or (exprs_in v.trees (numbers_of m.behind.now)) p (reference (stored_field v.bytes f))
-  stands = ap (replace_cols_by_name (map_of v m)) tree ∙ rep-reference (map_of v m) (stored_field v.bytes f) ∙ ap (λ i. get_or (map_of v m).1 i (reference (stored_field v.bytes f))) (sym place)
+-- over the tables: what stands behind a field
+module _ (v : View) (m : ReplaceMap) (inside : MapIn v m) (f : StoredField) (p : ℕ) (place : p ≡ seek (stored_field v.bytes f) (map (stored_field v.bytes) m.fields.now)) where
+  abbrev r : Field
+  r = stored_field v.bytes f
 
-  as-many : length (exprs_in v.trees (numbers_of m.behind.now)) ≡ length m.behind.now
-  as-many = length-map (numbers_of m.behind.now) (expr_in v.trees) ∙ length-map m.behind.now (λ d. d.0)
+  abbrev there : List Expr
+  there = exprs_in v.trees (numbers_of m.behind.now)
 
-  pub stands-behind : (d : ExprId) → p < length m.behind.now → expr_in v.trees (get_or m.behind.now p d).0 ≡ replaced v m e
-  stands-behind d lt =
+  found : replace_cols_by_name (map_of v m) (reference r) ≡ get_or there p (reference r)
+  found = rep-reference (map_of v m) r ∙ ap (λ i. get_or there i (reference r)) (sym place)
+
+  pub behind-is : (d : ExprId) → p < length m.behind.now → expr_in v.trees (get_or m.behind.now p d).0 ≡ replace_cols_by_name (map_of v m) (reference r)
+  behind-is d lt =
       ap (expr_in v.trees) (sym (get_or-map (λ (x : ExprId). x.0) m.behind.now p d 0 lt))
-      ∙ sym (get_or-map (expr_in v.trees) (numbers_of m.behind.now) p 0 (reference (stored_field v.bytes f)) (omega (arith, lt, length-map m.behind.now (λ (x : ExprId). x.0)))) ∙ sym stands
+      ∙ sym (get_or-map (expr_in v.trees) (numbers_of m.behind.now) p 0 (reference r) (omega (arith, lt, length-map m.behind.now (λ (x : ExprId). x.0)))) ∙ sym found
 
   pub behind-there : (d : ExprId) → p < length m.behind.now → (get_or m.behind.now p d).0 < length v.trees
   behind-there d lt = item_below (λ (x : ExprId). x.0) (length v.trees) m.behind.now p d lt inside.present
 
-  pub stands-itself : length m.behind.now ≤ p → expr_in v.trees e ≡ replaced v m e
-  stands-itself le = tree ∙ sym (stands ∙ get_or_past (exprs_in v.trees (numbers_of m.behind.now)) p (reference (stored_field v.bytes f)) (omega (arith, le, as-many)))
+  pub none-behind : length m.behind.now ≤ p → replace_cols_by_name (map_of v m) (reference r) ≡ reference r
+  none-behind le = found ∙ get_or_past there p (reference r) (omega (arith, le, length-map (numbers_of m.behind.now) (expr_in v.trees), length-map m.behind.now (λ d. d.0)))

@@ -3,7 +3,8 @@
 --     too_large      the refusal of a list that is past these limits
 --     Listed v es ids      ids stand for the expressions es
 --     ListedBy v es r ids      they do; or es are more than 64
-use Rattle.std.specs.Prelude.{◌≡◌, ◌<◌, ◌≤◌, Bool, true, ◌&&◌, List, length, nat_le, Ok, Err, Result}
+--     WithinBy v es r ids      they do; or es are past the limits
+use Rattle.std.specs.Prelude.{◌≡◌, ◌<◌, ◌≤◌, Bool, true, false, ◌&&◌, List, length, nat_le, Ok, Err, Result}
 use Rattle.plan.specs.Calls.{all_below}
 use Rattle.plan.specs.Faults.{fault}
 use Rattle.plan.specs.Fields.{every}
@@ -30,3 +31,7 @@ pub record Listed (v : View) (es : List Expr) (ids : List ExprId) : Type 0 where
 abbrev pub ListedBy : View → List Expr → Result (Unit {0}) Fault → List ExprId → Type 0
 ListedBy v es (Ok u) ids = Listed v es ids
 ListedBy v es (Err f) ids = (f ≡ too_large) × (64 < length es)
+
+abbrev pub WithinBy : View → List Expr → Result (Unit {0}) Fault → List ExprId → Type 0
+WithinBy v es (Ok u) ids = Listed v es ids
+WithinBy v es (Err f) ids = (f ≡ too_large) × (within_limits es ≡ false)

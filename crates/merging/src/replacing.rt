@@ -5,7 +5,9 @@ ghost use Rattle.plan.specs.Fields.{any};
 ghost use Rattle.plan.specs.Functions.{is_total};
 ghost use Rattle.plan.specs.Terms.Expr.{reference as reference_tree};
 ghost use Rattle.plan.specs.Terms.{size_of};
+ghost use Rattle.rewriting.specs.Extracting.{replace_cols_by_name};
 ghost use Rattle.rewriting.specs.Outlay.{tree_space};
+ghost use Rattle.rows.specs.Rows.{seek};
 ghost use Rattle.std.specs.Prelude.{◌≡◌, ◌<◌, ◌≤◌, min, true, false, length};
 ghost use Rattle.tables.specs.Begun.{TablesBegin};
 ghost use Rattle.tables.specs.Holding.{view_in};
@@ -44,6 +46,17 @@ impl ReplaceMap<'_> {
         } else {
             e
         }
+    }
+
+    /// What is behind the field that a reference means.
+    pub(crate) fn behind_field(self, terms: &Terms, field: StoredField) -> ExprId
+        requires inside { MapIn (view_of terms.now) self }
+        requires stored { stored_in (view_of terms.now).bytes field ≡ true }
+        requires known { seek (stored_field (view_of terms.now).bytes field) (map_of (view_of terms.now) self).0 < length self.fields.now }
+        ensures tree { tree_of terms.now result.0 ≡ replace_cols_by_name (map_of (view_of terms.now) self.entry) (reference_tree (stored_field (view_of terms.now).bytes field)) }
+        ensures present { result.0 < count terms.now }
+    {
+        self.behind[seek(terms, self.fields, field)]
     }
 }
 
