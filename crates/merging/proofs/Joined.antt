@@ -1,5 +1,5 @@
 -- What joins a list, on trees: a list that is past the limits stays so.
-use Rattle.std.proofs.Common.{◌≡◌, ℕ, ◌+◌, ◌<◌, ◌≤◌, Bool, true, false, cond, ◌&&◌, ◌||◌, leb, T, List, [], ◌∷◌, ◌++◌, map, length, eqb, refl, ap, ap₂, ◌∙◌, arith, length-append}
+use Rattle.std.proofs.Common.{◌≡◌, ℕ, ◌+◌, ◌<◌, ◌≤◌, Bool, true, false, cond, ◌&&◌, ◌||◌, leb, T, List, [], ◌∷◌, ◌++◌, map, length, eqb, sym, refl, ap, ap₂, ◌∙◌, arith, length-append}
 use Rattle.std.proofs.lemmas.Bool.{and_from, and_parts, le-leb, leb-true}
 use mir.Facts.{and_yes}
 use Rattle.plan.specs.Fields.{any, every}
@@ -123,3 +123,23 @@ pub columns-past : (F : Functions) (ins : List Field) (m : ReplaceMap) (cs : Lis
 unfolding columns_in
 columns-past F ins m [] acc h = h
 columns-past F ins m (c ∷ cs) acc h = columns-past F ins m cs (add_column F ins (replace_cols_by_name m (reference c)) acc) (column-past F ins (replace_cols_by_name m (reference c)) acc h)
+
+-- only a reference joins as a column
+pub no-column : (F : Functions) (ins : List Field) (e : Expr) (acc : List Expr) → ((r : Field) → e ≡ reference r → ⊥) → add_column F ins e acc ≡ acc
+unfolding add_column
+no-column F ins (literal v) acc h = refl
+no-column F ins (reference r) acc h = absurd (h r refl)
+no-column F ins (alias e f) acc h = refl
+no-column F ins (call n es) acc h = refl
+
+abbrev pub column_joins : Functions → List Field → Field → Expr → List Expr → Bool
+column_joins F ins r e acc = any (may_mean r) ins && lawful (map (field_of F) (acc ++ e ∷ []))
+
+pub column-there : (F : Functions) (ins : List Field) (r : Field) (e : Expr) (acc : List Expr) → e ≡ reference r → column_joins F ins r e acc ≡ false → add_column F ins e acc ≡ acc
+unfolding add_column
+column-there F ins r e acc is h = ap (λ d. add_column F ins d acc) is ∙ ap (λ b. cond b (acc ++ reference r ∷ []) acc) (ap (λ d. column_joins F ins r d acc) (sym is) ∙ h)
+
+pub column_new : (F : Functions) (ins : List Field) (r : Field) (e : Expr) (acc : List Expr) → e ≡ reference r → column_joins F ins r e acc ≡ true → add_column F ins e acc ≡ acc ++ e ∷ []
+unfolding add_column
+column_new F ins r e acc is h =
+    ap (λ d. add_column F ins d acc) is ∙ ap (λ b. cond b (acc ++ reference r ∷ []) acc) (ap (λ d. column_joins F ins r d acc) (sym is) ∙ h) ∙ ap (λ d. acc ++ d ∷ []) (sym is)
