@@ -5,3 +5,4 @@ pub mod Joined
 pub mod Aliased
 pub mod Pairing
 pub mod Gathering
+pub mod Columning

@@ -1,5 +1,7 @@
 -- Pairs and needed columns that are merged into a list; cited by src/merge.rt.
 --     pair_of v d      what was taken out, less one alias, and its alias
+--     columns_at v s n, needed_at v x s      a needed column as the only one, if it is of the input s; all that the extractor x has for s
+--     AllKnown fs cs      each column means one of the fields fs
 --     pair_in m p      a pair as an expression over the input, where m has what is behind the fields
 --     pairs_at v s d      it, as the only pair; none where it is of another input than s
 --     pairs_in m ps acc      the list acc with pairs, as `add_pairs` has it
@@ -16,15 +18,19 @@ use Rattle.plan.specs.Rendering.{unqualified_field}
 use Rattle.plan.specs.Terms.{Expr, Field}
 use Rattle.plan.specs.Terms.Expr.{alias, reference}
 use Rattle.plan.specs.declared.fault.Fault.{Fault}
+use Rattle.rows.specs.Standing.{Known}
+use Rattle.std.specs.List.{AllByRecursion}
 use Rattle.rewriting.specs.Extracting.{ReplaceMap as TreeMap, add_column, add_pair, replace_cols_by_name}
 use Rattle.rewriting.specs.Generated.{generated}
-use Rattle.rewriting.specs.Routing.{Pair, pairs_of, unalias}
+use Rattle.rewriting.specs.Routing.{Pair, needed_of, pairs_of, unalias}
 use Rattle.routing.specs.Sides.{side_of}
 use Rattle.routing.specs.declared.owning.Side.{Side}
 use Rattle.entries.specs.declared.node.ExprId.{ExprId}
-use Rattle.extracting.specs.Extractors.{entry_of}
+use Rattle.extracting.specs.Extractors.{entry_of, need_of, needs_of}
 use Rattle.extracting.specs.Walking.{Grows, NoRoom, Numbered}
 use Rattle.extracting.specs.declared.extractor.Extracted.{Extracted}
+use Rattle.extracting.specs.declared.extractor.Extractor.{Extractor}
+use Rattle.extracting.specs.declared.extractor.Needed.{Needed}
 use Rattle.tables.specs.Holding.{model_of, view_in}
 use Rattle.tables.specs.declared.tables.Tables.{Tables}
 use Rattle.terms.specs.Views.{View, numbers_of}
@@ -38,6 +44,15 @@ pair_of v d = (unalias (expr_in v.trees d.inner.0), generated d.alias)
 
 abbrev pub pairs_at : View → Side → Extracted → List Pair
 pairs_at v s d = pairs_of (side_of s) (entry_of v d ∷ [])
+
+abbrev pub columns_at : View → Side → Needed → List Field
+columns_at v s n = needed_of (side_of s) (need_of v n ∷ [])
+
+abbrev pub needed_at : View → Extractor → Side → List Field
+needed_at v x s = needed_of (side_of s) (needs_of v x)
+
+abbrev pub AllKnown : List Field → List Field → Type 0
+AllKnown fs cs = AllByRecursion (λ c. Known fs (reference c)) cs
 
 abbrev pub pair_in : TreeMap → Pair → Expr
 pair_in m p = alias (replace_cols_by_name m p.0) (unqualified_field p.1)
