@@ -1,5 +1,7 @@
 -- One expression made after another, and a map over tables that grow.
-use Rattle.std.proofs.Common.{◌≡◌, ℕ, ◌<◌, true, false, map, length, Ok, Err, Result, ap, ap₂, ◌∙◌, arith}
+use Rattle.std.proofs.Common.{◌≡◌, ℕ, ◌<◌, ◌≤◌, true, false, List, [], ◌∷◌, ◌++◌, map, length, Ok, Err, Result, refl, ap, ap₂, ◌∙◌, arith}
+use Rattle.std.proofs.lemmas.Bool.{and_from, and_parts, lt-ltb}
+use Rattle.plan.specs.Calls.{all_below, below}
 use Rattle.plan.specs.Fields.{any, every}
 use Rattle.plan.specs.Functions.{is_total}
 use Rattle.plan.specs.Model.{Model, Space, expr_in, plus}
@@ -21,6 +23,11 @@ use Rattle.terms.proofs.Frames.{stored-grow}
 use Rattle.terms.specs.Views.{numbers_of}
 use Rattle.merging.specs.Replacing.{MapIn, map_of}
 use Rattle.merging.specs.declared.replacing.ReplaceMap.{ReplaceMap}
+
+-- one number more
+pub below-push : (n : ℕ) (ns : List ℕ) (m : ℕ) → all_below n ns ≡ true → m < n → all_below n (ns ++ m ∷ []) ≡ true
+below-push n [] m h l = and_from _ _ (lt-ltb m n l) refl
+below-push n (j ∷ ns) m h l = let p = and_parts (below n j) (all_below n ns) h in and_from _ _ p.0 (below-push n ns m p.1 l)
 
 -- an expression that stands there is built of nothing
 pub itself : (t : Tables) (o : Space) (n : ℕ) (e : Expr) (r : ℕ) → r < length (view_in t).trees → expr_in (view_in t).trees r ≡ e → Built t o n e r t

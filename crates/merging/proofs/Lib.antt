@@ -6,3 +6,4 @@ pub mod Aliased
 pub mod Pairing
 pub mod Gathering
 pub mod Columning
+pub mod Listing

@@ -28,7 +28,7 @@ use Rattle.extracting.proofs.Steps.{below-more, exprs-stay}
 use Rattle.extracting.specs.Walking.{Built, BuiltBy, Grows, NoRoom, Numbered}
 use Rattle.merging.specs.Replacing.{MapIn, map_of, replaced}
 use Rattle.merging.specs.declared.replacing.ReplaceMap.{ReplaceMap}
-use Rattle.merging.proofs.Following.{map-stays}
+use Rattle.merging.proofs.Following.{below-push, map-stays}
 use Rattle.merging.proofs.Replaced.{all-no-total, rep, rep-call}
 
 -- of the arguments given of a call, the first i are done; made are the numbers of what came of them, which are the same where same holds
@@ -84,10 +84,6 @@ module _ (t u : Tables) (whole rest : List Expr) (given made : List ExprId) (i :
         begins = tables-then t u u' k.begins begins;
         unchanged = λ h. let q = unchanged h in numbers ∙ ap₂ (λ l n. l ++ n ∷ []) (k.unchanged q.0) q.1 ∙ sym (ap numbers_of (take_more given i d few-given) ∙ map_push (λ e. e.0) (take i given) (get_or given i d));
       }
-        where
-          below-push : (n : ℕ) (ns : List ℕ) (m : ℕ) → all_below n ns ≡ true → m < n → all_below n (ns ++ m ∷ []) ≡ true
-          below-push n [] m h l = and_from _ _ (lt-ltb m n l) refl
-          below-push n (j ∷ ns) m h l = let p = and_parts (below n j) (all_below n ns) h in and_from _ _ p.0 (below-push n ns m p.1 l)
 
   -- all are done, and a call was made of what came of them
   module _ (ended : rest ≡ []) where

@@ -2,13 +2,13 @@
 ghost use Rattle.extracting.specs.Extractors.{Inside, entry_in, need_in};
 ghost use Rattle.extracting.specs.Walking.{BuiltBy};
 ghost use Rattle.merging.specs.Joining.{ListedBy, WithinBy};
-ghost use Rattle.merging.specs.Merging.{AllKnown, GatheredBy, PairsMerged, columns_at, columns_in, needed_at, pair_in, pair_of, pairs_at};
+ghost use Rattle.merging.specs.Merging.{AllKnown, AllMerged, GatheredBy, PairsMerged, columns_at, columns_in, needed_at, pair_in, pair_of, pairs_at};
 ghost use Rattle.merging.specs.Replacing.{MapIn, map_of};
 ghost use Rattle.plan.specs.Calls.{all_below};
-ghost use Rattle.plan.specs.Fields.{any};
+ghost use Rattle.plan.specs.Fields.{any, every};
 ghost use Rattle.plan.specs.Functions.{is_total};
 ghost use Rattle.plan.specs.Model.{expr_in, exprs_in, space};
-ghost use Rattle.plan.specs.Rendering.{unqualified_field};
+ghost use Rattle.plan.specs.Rendering.{field_of, unqualified_field};
 ghost use Rattle.plan.specs.Terms.Expr.{alias as alias_tree};
 ghost use Rattle.plan.specs.Terms.{size_of};
 ghost use Rattle.rewriting.specs.Extracting.{add_pair};
@@ -16,15 +16,16 @@ ghost use Rattle.rewriting.specs.Generated.{countable, generated};
 ghost use Rattle.rewriting.specs.Outlay.{tree_space};
 ghost use Rattle.rewriting.specs.Routing.{same_side, unalias};
 ghost use Rattle.routing.specs.Sides.{side_of};
-ghost use Rattle.std.specs.Prelude.{◌≡◌, ◌+◌, ◌<◌, ◌≤◌, true, false, length};
+ghost use Rattle.std.specs.Prelude.{◌≡◌, ◌+◌, ◌<◌, ◌≤◌, true, false, length, map};
 ghost use Rattle.stepping.specs.Lists.{at_side};
+ghost use Rattle.entries.specs.Spans.{stored_field, stored_in};
 ghost use Rattle.tables.specs.Begun.{TablesBegin};
 ghost use Rattle.tables.specs.Holding.{fields_at, plan_count, view_in};
-ghost use Rattle.terms.specs.Views.{count, numbers_of, tree_of, view_of};
+ghost use Rattle.terms.specs.Views.{AllPresent, count, numbers_of, tree_of, view_of};
 
 use crate::joining::{add_column, add_pair, too_large};
 use crate::replacing::{ReplaceMap, replace_cols_by_name, replaced_size};
-use entries::node::{ExprId, ExprNode, PlanId};
+use entries::node::{ExprId, ExprNode, PlanId, Span, StoredField};
 use extracting::extractor::{Extracted, Extractor, Needed};
 use numbering::alias::generated;
 use plan::fault::Fault;
@@ -184,4 +185,32 @@ fn add_columns(
         merge_column(tables, replacing, under, *column, side, list)?;
     }
     Ok(())
+}
+
+/// The fields of a node, apart from the tables.
+fn copied_fields(tables: &Tables, p: PlanId) -> Table<StoredField, 64>
+    requires { p.0 < plan_count tables.now }
+    ensures value { map (stored_field (view_in tables.now).bytes) result ≡ fields_at tables.now p.0 }
+    ensures stored { every (stored_in (view_in tables.now).bytes) result ≡ true }
+{
+    let mut fields = Table::new(StoredField {
+        qualifier: None,
+        name: Span { start: 0, len: 0 },
+    });
+    fields.extend(tables.fields_of(p));
+    fields
+}
+
+/// Some expressions, each less one alias.
+fn all_unaliased(terms: &Terms, list: &[ExprId]) -> Table<ExprId, 64>
+    requires list { AllPresent terms.now list.now }
+    requires few { length list.now ≤ 64 }
+    ensures trees { exprs_in (view_of terms.now).trees (numbers_of result) ≡ map unalias (exprs_in (view_of terms.now).trees (numbers_of list.now)) }
+    ensures present { AllPresent terms.now result }
+{
+    let mut bare = Table::new(ExprId(0));
+    for e in list {
+        bare.push(unaliased(terms, *e));
+    }
+    bare
 }
