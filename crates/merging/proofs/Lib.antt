@@ -7,3 +7,4 @@ pub mod Pairing
 pub mod Gathering
 pub mod Columning
 pub mod Listing
+pub mod Whole

@@ -214,3 +214,33 @@ fn all_unaliased(terms: &Terms, list: &[ExprId]) -> Table<ExprId, 64>
     }
     bare
 }
+
+/// Merges what was taken out for an input, and what is needed of it, into the list of the Projection that is the input.
+fn add_all(
+    tables: &mut Tables,
+    extractor: &Extractor,
+    side: Side,
+    input: PlanId,
+    under: PlanId,
+    list: &mut Table<ExprId, 64>,
+) -> Result<(), Fault>
+    requires input { input.0 < plan_count tables.old }
+    requires under { under.0 < plan_count tables.old }
+    requires extractor { Inside (view_in tables.old) extractor.now }
+    requires list { all_below (length (view_in tables.old).trees) (numbers_of list.old) ≡ true }
+    requires few { length list.old ≤ 64 }
+    requires fields { fields_at tables.old input.0 ≡ map (field_of (view_in tables.old).functions) (exprs_in (view_in tables.old).trees (numbers_of list.old)) }
+    requires totals { any (is_total (view_in tables.old).functions) (exprs_in (view_in tables.old).trees (numbers_of list.old)) ≡ false }
+    requires known { AllKnown (fields_at tables.old input.0) (needed_at (view_in tables.old) extractor.now side) }
+    ensures answer { AllMerged tables.old extractor.now side under.0 (exprs_in (view_in tables.old).trees (numbers_of list.old)) result list.new tables.new }
+    ensures begins { TablesBegin tables.old tables.new }
+{
+    let fields = copied_fields(tables, input);
+    let behind = all_unaliased(tables.terms(), list.as_slice());
+    let replacing = ReplaceMap {
+        fields: fields.as_slice(),
+        behind: behind.as_slice(),
+    };
+    add_pairs(tables, replacing, extractor, side, list)?;
+    add_columns(tables, replacing, under, extractor, side, list)
+}
