@@ -1,8 +1,6 @@
 -- Needed columns that are merged into a list one after another.
-use Rattle.std.proofs.Common.{◌≡◌, ℕ, ◌+◌, ◌<◌, ◌≤◌, Bool, true, false, cond, List, [], ◌∷◌, ◌++◌, map, length, get_or, drop, Ok, Err, Result, sym, refl, ap, ◌∙◌, subst, arith}
+use Rattle.std.proofs.Common.{◌≡◌, ℕ, ◌+◌, ◌<◌, ◌≤◌, Bool, true, false, cond, List, [], ◌∷◌, ◌++◌, map, length, get_or, drop, Err, Result, sym, refl, ap, ◌∙◌, subst, arith}
 use Rattle.std.proofs.lemmas.List.{at_drop_all, at_drop_more, get_or-map, length-map}
-use Rattle.std.specs.List.{AllByRecursion}
-use Rattle.lexicon.proofs.Frames.{every-at}
 use Rattle.plan.specs.Calls.{all_below}
 use Rattle.plan.specs.Functions.{Functions}
 use Rattle.plan.specs.Model.{expr_in, exprs_in}
@@ -16,16 +14,14 @@ use Rattle.routing.specs.Sides.{side_of}
 use Rattle.routing.specs.declared.owning.Side
 use Rattle.rows.specs.Lists.{keep}
 use Rattle.rows.specs.Rows.{seek}
-use Rattle.rows.specs.Standing.{Known}
 use Rattle.entries.specs.Spans.{stored_field}
 use Rattle.entries.specs.declared.node.ExprId.{ExprId}
-use Rattle.entries.specs.declared.node.StoredField.{StoredField}
 use Rattle.terms.specs.Views.{View, numbers_of}
-use Rattle.extracting.specs.Extractors.{Inside, need_in, need_of, needs_of}
+use Rattle.extracting.specs.Extractors.{need_of, needs_of}
 use Rattle.extracting.specs.declared.extractor.Extractor.{Extractor}
 use Rattle.extracting.specs.declared.extractor.Needed.{Needed}
-use Rattle.merging.specs.Joining.{Listed, ListedBy, WithinBy, too_large, within_limits}
-use Rattle.merging.specs.Merging.{AllKnown, columns_at, columns_in, needed_at}
+use Rattle.merging.specs.Joining.{Listed, ListedBy, too_large, within_limits}
+use Rattle.merging.specs.Merging.{AllKnown, columns_at, columns_in}
 use Rattle.merging.specs.Replacing.{map_of}
 use Rattle.merging.specs.declared.replacing.ReplaceMap.{ReplaceMap}
 use Rattle.merging.proofs.Joined.{columns-past, past-count}

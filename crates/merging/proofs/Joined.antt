@@ -54,11 +54,11 @@ mutual
       let q = same-sizes es ds k.1 in
       omega arith
 
-off : (b : Bool) → (b ≡ true → ⊥) → b ≡ false
+pub off : (b : Bool) → (b ≡ true → ⊥) → b ≡ false
 off true f = absurd (f refl)
 off false f = refl
 
-apart : (b : Bool) → b ≡ true → b ≡ false → ⊥
+pub apart : (b : Bool) → b ≡ true → b ≡ false → ⊥
 apart b h k = let z : ◌≡◌ {A = ℕ} 0 1 = cc in omega arith
 
 -- an expression that is too large equals none that is not

@@ -8,3 +8,5 @@ pub mod Gathering
 pub mod Columning
 pub mod Listing
 pub mod Whole
+pub mod Stepping
+pub mod Read

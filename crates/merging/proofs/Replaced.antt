@@ -15,7 +15,7 @@ use Rattle.entries.specs.declared.node.ExprId.{ExprId}
 use Rattle.entries.specs.declared.node.StoredField.{StoredField}
 use Rattle.terms.proofs.Walks.{item_below}
 use Rattle.terms.specs.Views.{View, numbers_of}
-use Rattle.merging.specs.Replacing.{MapIn, map_of, replaced}
+use Rattle.merging.specs.Replacing.{MapIn, map_of}
 use Rattle.merging.specs.declared.replacing.ReplaceMap.{ReplaceMap}
 
 module _ (m : Extracting.ReplaceMap) where

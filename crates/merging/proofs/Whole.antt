@@ -1,5 +1,5 @@
 -- Pairs and columns together, over the Projection that they are merged into.
-use Rattle.std.proofs.Common.{◌≡◌, ℕ, Bool, true, false, ◌||◌, List, [], ◌∷◌, map, length, Ok, Err, Result, inl, inr, sym, refl, ap, ap₂, ◌∙◌, subst, arith}
+use Rattle.std.proofs.Common.{◌≡◌, ℕ, true, ◌||◌, List, [], ◌∷◌, map, length, Ok, Err, Result, inl, inr, sym, refl, ap, ap₂, ◌∙◌, subst, arith}
 use Rattle.std.proofs.lemmas.List.{length-map}
 use Rattle.plan.specs.Calls.{all_below}
 use Rattle.plan.specs.Fields.{any, every}
@@ -7,7 +7,7 @@ use Rattle.plan.specs.Functions.{Functions, is_total}
 use Rattle.plan.specs.Model.{Space, expr_in, exprs_in, plan_in}
 use Rattle.plan.specs.Plans.{fields_of}
 use Rattle.plan.specs.Rendering.{field_of}
-use Rattle.plan.specs.Terms.{Expr, Field}
+use Rattle.plan.specs.Terms.{Expr}
 use Rattle.plan.specs.Terms.Expr.{alias, call, literal, reference}
 use Rattle.plan.specs.declared.fault.Fault.{Fault}
 use Rattle.rewriting.specs.Extracting
@@ -27,7 +27,7 @@ use Rattle.terms.specs.Views.{View, numbers_of}
 use Rattle.extracting.proofs.Growing.{extractor-stays}
 use Rattle.extracting.specs.Extractors.{Inside}
 use Rattle.extracting.specs.declared.extractor.Extractor.{Extractor}
-use Rattle.merging.specs.Joining.{Listed, WithinBy}
+use Rattle.merging.specs.Joining.{WithinBy}
 use Rattle.merging.specs.Merging.{AllKnown, AllMerged, Gathered, GatheredBy, PairsMerged, Stopped, columns_in, merged_list, needed_at, pair_in, pairs_in}
 use Rattle.merging.specs.Replacing.{MapIn, map_of}
 use Rattle.merging.specs.declared.replacing.ReplaceMap.{ReplaceMap}

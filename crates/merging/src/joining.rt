@@ -95,13 +95,7 @@ fn is_lawful_with(terms: &Terms, list: &[ExprId], e: ExprId) -> bool
 }
 
 /// Whether a reference joins a list: it may mean a field of the input, and the fields stay lawful.
-fn joins(
-    tables: &Tables,
-    under: PlanId,
-    e: ExprId,
-    reference: StoredField,
-    list: &[ExprId],
-) -> bool
+fn joins(tables: &Tables, under: PlanId, e: ExprId, reference: StoredField, list: &[ExprId]) -> bool
     requires under { under.0 < plan_count tables.now }
     requires stored { stored_in (view_in tables.now).bytes reference ≡ true }
     requires list { all_below (length (view_in tables.now).trees) (numbers_of list.now) ≡ true }

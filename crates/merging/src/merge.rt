@@ -2,7 +2,7 @@
 ghost use Rattle.extracting.specs.Extractors.{Inside, entry_in, need_in};
 ghost use Rattle.extracting.specs.Walking.{BuiltBy};
 ghost use Rattle.merging.specs.Joining.{ListedBy, WithinBy};
-ghost use Rattle.merging.specs.Merging.{AllKnown, AllMerged, GatheredBy, PairsMerged, columns_at, columns_in, needed_at, pair_in, pair_of, pairs_at};
+ghost use Rattle.merging.specs.Merging.{AllKnown, AllMerged, GatheredBy, IsProjection, PairsMerged, columns_at, columns_in, merged_outcome, merged_tree, needed_at, pair_in, pair_of, pairs_at};
 ghost use Rattle.merging.specs.Replacing.{MapIn, map_of};
 ghost use Rattle.plan.specs.Calls.{all_below};
 ghost use Rattle.plan.specs.Fields.{any, every};
@@ -13,24 +13,31 @@ ghost use Rattle.plan.specs.Terms.Expr.{alias as alias_tree};
 ghost use Rattle.plan.specs.Terms.{size_of};
 ghost use Rattle.rewriting.specs.Extracting.{add_pair};
 ghost use Rattle.rewriting.specs.Generated.{countable, generated};
+ghost use Rattle.rewriting.specs.Limits.{OnlyEight};
 ghost use Rattle.rewriting.specs.Outlay.{tree_space};
 ghost use Rattle.rewriting.specs.Routing.{same_side, unalias};
 ghost use Rattle.routing.specs.Sides.{side_of};
 ghost use Rattle.std.specs.Prelude.{◌≡◌, ◌+◌, ◌<◌, ◌≤◌, true, false, length, map};
 ghost use Rattle.stepping.specs.Lists.{at_side};
+ghost use Rattle.stepping.specs.Steps.{Steps};
 ghost use Rattle.entries.specs.Spans.{stored_field, stored_in};
 ghost use Rattle.tables.specs.Begun.{TablesBegin};
-ghost use Rattle.tables.specs.Holding.{fields_at, plan_count, view_in};
+ghost use Rattle.tables.specs.Holding.{fields_at, model_of, plan_count, view_in};
+ghost use Rattle.tables.specs.Stored.{run_exprs};
+ghost use Rattle.terms.specs.Build.{numbers_in};
 ghost use Rattle.terms.specs.Views.{AllPresent, count, numbers_of, tree_of, view_of};
 
 use crate::joining::{add_column, add_pair, too_large};
 use crate::replacing::{ReplaceMap, replace_cols_by_name, replaced_size};
-use entries::node::{ExprId, ExprNode, PlanId, Span, StoredField};
+use entries::listed::Listed;
+use entries::node::{ExprId, ExprNode, PlanId, Run, Span, StoredField};
 use extracting::extractor::{Extracted, Extractor, Needed};
 use numbering::alias::generated;
-use plan::fault::Fault;
+use plan::fault::{Fault, Stage};
 use routing::owning::Side;
+use stepping::making::make_at;
 use table::table::Table;
+use tables::node::NewNode;
 use tables::tables::Tables;
 use terms::terms::Terms;
 
@@ -201,6 +208,18 @@ fn copied_fields(tables: &Tables, p: PlanId) -> Table<StoredField, 64>
     fields
 }
 
+/// The expressions of a list, apart from the tables.
+fn listed(terms: &Terms, run: Run) -> Table<ExprId, 64>
+    requires inside { run.first + run.count ≤ length (view_of terms.now).entries }
+    requires few { run.count ≤ 64 }
+    ensures numbers { numbers_of result ≡ numbers_in (view_of terms.now).entries run.first run.count }
+    ensures few { length result ≤ 64 }
+{
+    let mut list = Table::new(ExprId(0));
+    list.push_each(terms.entries(run), ExprId::read);
+    list
+}
+
 /// Some expressions, each less one alias.
 fn all_unaliased(terms: &Terms, list: &[ExprId]) -> Table<ExprId, 64>
     requires list { AllPresent terms.now list.now }
@@ -243,4 +262,32 @@ fn add_all(
     };
     add_pairs(tables, replacing, extractor, side, list)?;
     add_columns(tables, replacing, under, extractor, side, list)
+}
+
+/// The Projection `input`, of the list `list` over the node `under`, made anew with what was taken out for it and what is
+/// needed of it: what is found over its fields is put over its input's.
+pub fn merge(
+    tables: &mut Tables,
+    extractor: &Extractor,
+    side: Side,
+    input: PlanId,
+    under: PlanId,
+    list: Run,
+) -> Result<PlanId, Fault>
+    requires present { input.0 < plan_count tables.old }
+    requires reads { IsProjection tables.old input.0 under list }
+    requires inside { Inside (view_in tables.old) extractor.now }
+    requires totals { any (is_total (view_in tables.old).functions) (run_exprs (view_in tables.old) list) ≡ false }
+    requires known { AllKnown (fields_at tables.old input.0) (needed_at (view_in tables.old) extractor.now side) }
+    requires only { OnlyEight (view_in tables.old).functions (merged_tree tables.old extractor.now side under list) }
+    ensures steps { Steps (model_of tables.old) extractor.now.next (merged_outcome tables.old extractor.now side under list) result (model_of tables.new) }
+    ensures begins { TablesBegin tables.old tables.new }
+{
+    let mut merged = listed(tables.terms(), list);
+    add_all(tables, extractor, side, input, under, &mut merged)?;
+    let node = NewNode::Projection {
+        input: under,
+        list: merged.as_slice(),
+    };
+    make_at(tables, node, Stage::Merge, 0)
 }

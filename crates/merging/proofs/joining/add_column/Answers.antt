@@ -1,11 +1,5 @@
-use Rattle.std.proofs.Common.{◌≡◌, Bool, true, ◌&&◌, List, ◌++◌, [], ◌∷◌, map, length, sym, ap, ◌∙◌, subst}
-use Rattle.plan.specs.Fields.{any, lawful}
-use Rattle.plan.specs.Functions.{Functions}
+use Rattle.std.proofs.Common.{List, ◌++◌, [], ◌∷◌, sym, ap, ◌∙◌, subst}
 use Rattle.plan.specs.Model.{expr_in, exprs_in}
-use Rattle.plan.specs.Rendering.{field_of}
-use Rattle.plan.specs.Terms.{Expr, Field}
-use Rattle.plan.specs.Terms.Expr.{reference}
-use Rattle.rewriting.specs.Extracting.{add_column}
 use Rattle.entries.specs.Spans.{stored_field}
 use Rattle.entries.specs.declared.node.ExprId.{ExprId}
 use Rattle.entries.specs.declared.node.ExprNode.TheVariants.{Alias, Call, Constant, Reference}

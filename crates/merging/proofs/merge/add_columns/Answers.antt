@@ -1,4 +1,4 @@
-use Rattle.std.proofs.Common.{◌≡◌, ◌+◌, ◌<◌, ◌≤◌, List, Ok, Err, None, length, get_or, refl, sym, ap, subst, arith, rules}
+use Rattle.std.proofs.Common.{◌≡◌, ◌<◌, List, Err, None, length, get_or, refl, sym, ap, subst, arith, rules}
 use Rattle.plan.specs.Model.{exprs_in}
 use Rattle.routing.specs.declared.owning.Side.TheVariants.{First}
 use Rattle.tables.specs.Holding.{fields_at, view_in}

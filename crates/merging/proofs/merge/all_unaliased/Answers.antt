@@ -1,10 +1,10 @@
-use Rattle.std.proofs.Common.{◌≡◌, true, length, map, ap, ◌∙◌, arith}
+use Rattle.std.proofs.Common.{length, map, ap, ◌∙◌, arith}
 use Rattle.std.proofs.lemmas.List.{length_push, map_push, take_all}
 use Rattle.plan.specs.Calls.{all_below}
 use Rattle.plan.specs.Model.{exprs_in}
 use Rattle.rewriting.specs.Routing.{unalias}
 use Rattle.entries.specs.declared.node.ExprId.{ExprId}
-use Rattle.terms.specs.Views.{count, numbers_of, view_of}
+use Rattle.terms.specs.Views.{numbers_of, view_of}
 use Rattle.merging.proofs.Following.{below-push}
 use Rattle.merging.proofs.Listing.{one-more, there}
 use Rattle.merging.proofs.merge.all_unaliased.Goals as goal
