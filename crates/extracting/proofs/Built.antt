@@ -61,7 +61,7 @@ module _ (t u : Tables) (c : Call) (e : Expr) (new : new_exprs (model_of t) c �
       }
 
 -- where all other questions are answered yes, a refusal is for space
-only-space : (b : Bool) (f : Fault) → cond b None (Some SpaceQuestion) ≡ Some f.question → f ≡ refusal f.question → (f ≡ refusal SpaceQuestion) × (b ≡ false)
+pub only-space : (b : Bool) (f : Fault) → cond b None (Some SpaceQuestion) ≡ Some f.question → f ≡ refusal f.question → (f ≡ refusal SpaceQuestion) × (b ≡ false)
 only-space true f h k = absurd (let z : ◌≡◌ {A = ℕ} 0 1 = cc in omega arith)
 only-space false f h k = let q : f.question ≡ SpaceQuestion = cc in (k ∙ ap refusal q, refl)
 

@@ -1,21 +1,15 @@
 -- What the walk reads of a node, where m are the expressions of the tables t; and what the walk comes to there.
-use Rattle.std.proofs.Common.{◌≡◌, ℕ, ◌+◌, ◌<◌, ◌≤◌, Bool, true, false, not, ◌&&◌, cond, ltb, leb, List, length, get_or, Some, None, Option, sym, refl, ap, ap₂, ◌∙◌, subst, arith}
+use Rattle.std.proofs.Common.{◌≡◌, ℕ, ◌<◌, ◌≤◌, true, false, cond, ltb, List, length, Some, None, Option, sym, ap, ap₂, ◌∙◌, subst}
 use Rattle.std.proofs.lemmas.Bool.{and_parts, ltb-true}
-use Rattle.std.proofs.lemmas.List.{get_or-map, length-map}
-use Rattle.plan.specs.Calls.{all_below, arity_is}
-use Rattle.plan.specs.Fields.{any}
-use Rattle.plan.specs.Functions.{Functions, function_at, is_marked, is_total, placement_of}
-use Rattle.plan.specs.Model.{expr_in, exprs_in, no_expr}
+use Rattle.plan.specs.Functions.{Functions, is_marked, placement_of}
+use Rattle.plan.specs.Model.{expr_in, exprs_in}
 use Rattle.plan.specs.Names.{prefixed}
-use Rattle.plan.specs.Questions.{small_tree}
-use Rattle.plan.specs.Terms.{Expr, arguments, listed}
+use Rattle.plan.specs.Terms.{Expr, arguments}
 use Rattle.plan.specs.Terms.Expr.{alias, call}
 use Rattle.rewriting.specs.Routing
 use Rattle.rewriting.specs.Routing.{Side, add_extracted, entered, noted, routing_extract, routing_extract_all}
-use Rattle.lexicon.proofs.Frames.{every-at}
 use Rattle.tables.specs.Holding.{model_of, nodes_of, view_in}
 use Rattle.tables.specs.declared.tables.Tables.{Tables}
-use Rattle.terms.specs.Acceptance.{acceptable, all_acceptable}
 use Rattle.terms.specs.Build.{inside_node, numbers_in}
 use Rattle.entries.specs.Spans.{literal_at, stored_field, stored_in}
 use Rattle.terms.specs.Views.{numbers_of, tree_for, tree_of, view_of}
@@ -27,12 +21,13 @@ use Rattle.entries.specs.declared.node.Run.{Run}
 use Rattle.entries.specs.declared.node.StoredField.{StoredField}
 use Rattle.terms.specs.declared.terms.Terms.{Terms}
 use Rattle.terms.proofs.Frames.{field-grow}
-use Rattle.terms.proofs.Walks.{few, item_below, listed-arguments}
+use Rattle.terms.proofs.Walks.{few}
 use Rattle.extracting.specs.Extractors.{Inside, extractor_of}
 use Rattle.extracting.specs.Owners.{inputs_in, owner_by}
 use Rattle.extracting.specs.Walking.{Grows, Walked, walk_in}
 use Rattle.extracting.specs.declared.extractor.Extractor.{Extractor}
 use Rattle.extracting.specs.declared.inputs.Inputs.{Inputs}
+use Rattle.extracting.proofs.Arguments.{call-is}
 use Rattle.extracting.proofs.Growing.{grows-at-once, owner-stays}
 use Rattle.extracting.proofs.Numbers.{numbered-here}
 use Rattle.extracting.proofs.Rewritten.{walk-alias, walk-call, walk-literal, walk-prefixed, walk-reference, walk-taken}
@@ -118,11 +113,8 @@ module _ (t : Tables) (is : Inputs) (e n : ℕ) (run : Run) (given : List ExprId
   abbrev ts : List Expr
   ts = exprs_in (view_in t).trees (numbers_of given)
 
-  pub call-is : expr_in (view_in t).trees e ≡ call n (arguments ts)
-  call-is = h ∙ ap (λ ns. call n (arguments (exprs_in (view_in t).trees ns))) (sym given-is)
-
-  pub all-lower : all_below e (numbers_of given) ≡ true
-  all-lower = ap (all_below e) given-is ∙ (and_parts (leb (run.first + run.count) (length (view_in t).entries)) (all_below e (numbers_in (view_in t).entries run.first run.count)) inside).1
+  call-here-is : expr_in (view_in t).trees e ≡ call n (arguments ts)
+  call-here-is = call-is t e n run given h inside given-is present
 
   pub at-call : None ≡ cond (is_marked (placement_of (view_in t).functions (expr_in (view_in t).trees e))) (owner_by (view_in t).functions (nodes_of t) is (expr_in (view_in t).trees e)) None
       → walk_in t is (expr_in (view_in t).trees e) (extractor_of (view_in t) x)
@@ -131,30 +123,4 @@ module _ (t : Tables) (is : Inputs) (e n : ℕ) (run : Run) (given : List ExprId
       let F = (view_in t).functions in
       let own = owner_by F (nodes_of t) is in
       let g = extractor_of (view_in t) x in
-      ap (λ d. walk_in t is d g) call-is ∙ walk-call F own n ts g (subst (λ d. None ≡ cond (is_marked (placement_of F d)) (own d) None) call-is k)
-
-  pub no-totals : any (is_total (view_in t).functions) ts ≡ false
-  no-totals =
-      let F = (view_in t).functions in
-      let es = arguments ts in
-      let ok = sym (ap (acceptable F) call-is) ∙ every-at (acceptable F) (view_in t).trees e no_expr present t.terms.accepted in
-      let p = and_parts (all_acceptable F es) (arity_is (function_at F n) (length (listed es)) && (not (any (is_total F) (listed es)) && small_tree (call n es))) ok in
-      let q = and_parts (arity_is (function_at F n) (length (listed es))) (not (any (is_total F) (listed es)) && small_tree (call n es)) p.1 in
-      let r = (and_parts (not (any (is_total F) (listed es))) (small_tree (call n es)) q.1).0 in
-      sym (ap (any (is_total F)) (listed-arguments ts)) ∙ off (any (is_total F) (listed es)) r
-    where
-      off : (b : Bool) → not b ≡ true → b ≡ false
-      off true k = absurd (let z : ◌≡◌ {A = ℕ} 0 1 = cc in omega arith)
-      off false k = refl
-
-  module _ (i : ℕ) (d : ExprId) (lt : i < length given) where
-    pub argument-lower : (get_or given i d).0 < e
-    argument-lower = item_below (λ y. y.0) e given i d lt all-lower
-
-    pub argument-is : expr_in (view_in t).trees (get_or given i d).0 ≡ get_or ts i no_expr
-    argument-is =
-        ap (expr_in (view_in t).trees) (sym (get_or-map (λ y. y.0) given i d 0 lt))
-        ∙ sym (get_or-map (expr_in (view_in t).trees) (numbers_of given) i 0 no_expr (omega (arith, lt, length-map given (λ y. y.0))))
-
-  pub as-many : length ts ≡ length given
-  as-many = length-map (numbers_of given) (expr_in (view_in t).trees) ∙ length-map given (λ y. y.0)
+      ap (λ d. walk_in t is d g) call-here-is ∙ walk-call F own n ts g (subst (λ d. None ≡ cond (is_marked (placement_of F d)) (own d) None) call-here-is k)

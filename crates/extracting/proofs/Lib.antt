@@ -1,11 +1,13 @@
 mod Needs
+pub mod Accepted
 pub mod Spaces
 pub mod Rewritten
 pub mod Growing
 mod Entered
 pub mod Built
 pub mod Steps
-mod Cases
+pub mod Arguments
+pub mod Cases
 mod Turns
 mod Columned
 mod Columning

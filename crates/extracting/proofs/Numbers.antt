@@ -30,7 +30,7 @@ module _ (m m' : Model) (e : Expr) (functions : m'.functions ≡ m.functions) (e
   numbered-push n h k a b = omega (arith, next-pushed)
 
 -- expressions of the book, and what is made of them
-expr-number : (m : Model) (i : ℕ) → highest 0 (expr_names (expr_in m.exprs i)) < next_number m
+pub expr-number : (m : Model) (i : ℕ) → highest 0 (expr_names (expr_in m.exprs i)) < next_number m
 expr-number m i =
     let n = highest 0 (flat_map expr_names m.exprs) in
     omega (arith, next-is m, at-below n expr_names no_expr (no-expr-below n) m.exprs i (omega arith), ap (highest 0) (of-list m.exprs))

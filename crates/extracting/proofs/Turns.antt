@@ -5,15 +5,18 @@ use Rattle.std.proofs.lemmas.List.{append-nil, take_all}
 use Rattle.plan.specs.Fields.{any}
 use Rattle.plan.specs.Functions.{Functions, is_marked, is_total, placement_of}
 use Rattle.plan.specs.Model.{expr_in, exprs_in, no_expr, space}
+use Rattle.plan.specs.Questions.{small_tree}
 use Rattle.plan.specs.Terms.{Expr, arguments, sizes_of}
 use Rattle.plan.specs.Terms.Expr.{call}
 use Rattle.plan.specs.declared.fault.Fault.{Fault}
+use Rattle.lexicon.proofs.Frames.{every-at}
 use Rattle.rewriting.specs.Outlay.{tree_space}
 use Rattle.rewriting.specs.Routing
 use Rattle.rewriting.specs.Routing.{Side, routing_extract, routing_extract_all}
 use Rattle.tables.specs.Begun.{TablesBegin}
 use Rattle.tables.specs.Holding.{nodes_of, view_in}
 use Rattle.tables.specs.declared.tables.Tables.{Tables}
+use Rattle.terms.specs.Acceptance.{acceptable}
 use Rattle.terms.specs.Build.{inside_node, numbers_in}
 use Rattle.terms.specs.Views.{numbers_of, tree_for}
 use Rattle.entries.specs.declared.node.ExprId.{ExprId}
@@ -24,7 +27,9 @@ use Rattle.extracting.specs.Owners.{owner_by}
 use Rattle.extracting.specs.Walking.{Answered, BuiltBy, Stopped, Walked, walk_in}
 use Rattle.extracting.specs.declared.extractor.Extractor.{Extractor}
 use Rattle.extracting.specs.declared.inputs.Inputs.{Inputs}
-use Rattle.extracting.proofs.Cases.{all-lower, argument-is, argument-lower, as-many, at-call, call-is, no-totals, walk-same}
+use Rattle.extracting.proofs.Accepted.{call-small}
+use Rattle.extracting.proofs.Arguments.{all-lower, argument-is, argument-lower, as-many, call-is, no-totals}
+use Rattle.extracting.proofs.Cases.{at-call, walk-same}
 use Rattle.extracting.proofs.Growing.{tree-stays}
 use Rattle.extracting.proofs.Moving.{given-back}
 use Rattle.extracting.proofs.Rewritten.{all-no-total, all-small, all_end}
@@ -57,7 +62,7 @@ module _ (t : Tables) (is : Inputs) (e n : ℕ) (run : Run) (given : List ExprId
       number = (get_or given i d).0
 
       pub lower : number < e
-      lower = argument-lower t is e n run given x h inside given-is present i d lt
+      lower = argument-lower t e n run given h inside given-is present i d lt
 
       abbrev step : Expr × Routing.Extractor
       step = walk_in u is (expr_in (view_in u).trees number) (extractor_of (view_in u) y)
@@ -68,10 +73,10 @@ module _ (t : Tables) (is : Inputs) (e n : ℕ) (run : Run) (given : List ExprId
       here-is : step ≡ here
       here-is =
           walk-same t u k.grows is (expr_in (view_in u).trees number) (extractor_of (view_in u) y)
-          ∙ ap (λ z. routing_extract F own z (extractor_of (view_in u) y)) (tree-stays t u k.grows number (omega (arith, lower, present)) ∙ argument-is t is e n run given x h inside given-is present i d lt)
+          ∙ ap (λ z. routing_extract F own z (extractor_of (view_in u) y)) (tree-stays t u k.grows number (omega (arith, lower, present)) ∙ argument-is t e n run given h inside given-is present i d lt)
 
       among : i < length ts
-      among = omega (arith, lt, as-many t is e n run given x h inside given-is present)
+      among = omega (arith, lt, as-many t e n run given h inside given-is present)
 
       pub needed : length walked.1.needed ≤ 256 → length step.1.needed ≤ 256
       needed q =
@@ -96,22 +101,24 @@ module _ (t : Tables) (is : Inputs) (e n : ℕ) (run : Run) (given : List ExprId
       done = exprs_in (view_in u).trees (numbers_of made)
 
       at-end : Partly t u y whole ([], extractor_of (view_in u) y) given made i same
-      at-end = subst (λ r. Partly t u y whole r given made i same) (all_end F own ts i (extractor_of (view_in u) y) (omega (arith, le, as-many t is e n run given x h inside given-is present))) k
+      at-end = subst (λ r. Partly t u y whole r given made i same) (all_end F own ts i (extractor_of (view_in u) y) (omega (arith, le, as-many t e n run given h inside given-is present))) k
 
       done-is : whole.0 ≡ done
       done-is = ap (λ (w : List Expr × Routing.Extractor). w.0) at-end.whole_is ∙ append-nil done
 
       given-stays : exprs_in (view_in u).trees (numbers_of given) ≡ ts
-      given-stays = exprs-stay t u k.grows (numbers_of given) (below-more e (length (view_in t).trees) (numbers_of given) (omega (arith, present)) (all-lower t is e n run given x h inside given-is present))
+      given-stays = exprs-stay t u k.grows (numbers_of given) (below-more e (length (view_in t).trees) (numbers_of given) (omega (arith, present)) (all-lower t e n run given h inside given-is present))
 
       pub call-here : expr_in (view_in u).trees e ≡ call n (arguments (exprs_in (view_in u).trees (numbers_of given)))
-      call-here = tree-stays t u k.grows e present ∙ call-is t is e n run given x h inside given-is present ∙ ap (λ l. call n (arguments l)) (sym given-stays)
+      call-here = tree-stays t u k.grows e present ∙ call-is t e n run given h inside given-is present ∙ ap (λ l. call n (arguments l)) (sym given-stays)
 
-      pub made-small : sizes_of (arguments done) ≤ sizes_of (arguments (exprs_in (view_in u).trees (numbers_of given)))
-      made-small = omega (arith, all-small F own ts (extractor_of (view_in t) x), ap (λ l. sizes_of (arguments l)) done-is, ap (λ l. sizes_of (arguments l)) given-stays)
+      pub made-small : small_tree (call n (arguments done)) ≡ true
+      made-small =
+          call-small F (expr_in (view_in t).trees e) n ts done (call-is t e n run given h inside given-is present) (every-at (acceptable F) (view_in t).trees e no_expr present t.terms.accepted)
+          (omega (arith, all-small F own ts (extractor_of (view_in t) x), ap (λ l. sizes_of (arguments l)) done-is))
 
       pub made-no-total : any (is_total (view_in u).functions) done ≡ false
-      made-no-total = ap₂ (λ fs l. any (is_total fs) l) k.grows.functions (sym done-is) ∙ all-no-total F own ts (extractor_of (view_in t) x) (no-totals t is e n run given x h inside given-is present)
+      made-no-total = ap₂ (λ fs l. any (is_total fs) l) k.grows.functions (sym done-is) ∙ all-no-total F own ts (extractor_of (view_in t) x) (no-totals t e n run given h inside given-is present)
 
       pub made-same : same ≡ true → numbers_of made ≡ numbers_of given
       made-same q = k.unchanged q ∙ ap numbers_of (take_all i given le)

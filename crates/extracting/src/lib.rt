@@ -3,5 +3,5 @@
 
 pub mod extractor;
 pub mod inputs;
-mod rebuilding;
+pub mod rebuilding;
 pub mod walking;

@@ -4,21 +4,44 @@ ghost use Rattle.plan.specs.Calls.{all_below};
 ghost use Rattle.plan.specs.Fields.{any};
 ghost use Rattle.plan.specs.Functions.{is_total};
 ghost use Rattle.plan.specs.Model.{expr_in, exprs_in, space};
+ghost use Rattle.plan.specs.Questions.{small_tree};
 ghost use Rattle.plan.specs.Rendering.{unqualified_field};
 ghost use Rattle.plan.specs.Terms.Expr.{alias as alias_tree, call as call_tree, reference as reference_tree};
-ghost use Rattle.plan.specs.Terms.{arguments, size_of, sizes_of};
+ghost use Rattle.plan.specs.Terms.{arguments};
 ghost use Rattle.rewriting.specs.Generated.{countable, generated};
 ghost use Rattle.rewriting.specs.Outlay.{tree_space};
-ghost use Rattle.std.specs.Prelude.{◌≡◌, ◌+◌, ◌<◌, ◌≤◌, true, false, length, IfOk, Ok};
+ghost use Rattle.std.specs.Prelude.{◌≡◌, ◌+◌, ◌<◌, ◌≤◌, true, false, ◌&&◌, length, nat_eq, IfOk, Ok};
 ghost use Rattle.tables.specs.Begun.{TablesBegin};
 ghost use Rattle.tables.specs.Holding.{view_in};
 ghost use Rattle.entries.specs.Spans.{stored_field, stored_in};
-ghost use Rattle.terms.specs.Views.{numbers_of};
+ghost use Rattle.terms.specs.Build.{numbers_in};
+ghost use Rattle.terms.specs.Views.{numbers_of, view_of};
 
-use entries::node::{ExprId, StoredField};
+use entries::listed::Listed;
+use entries::node::{ExprId, Run, StoredField};
 use numbering::alias::generated;
 use plan::fault::Fault;
+use table::table::Table;
 use tables::tables::Tables;
+use terms::terms::Terms;
+
+/// The arguments of a call, apart from the tables.
+pub fn arguments_of(terms: &Terms, run: Run) -> Table<ExprId, 4>
+    requires inside { run.first + run.count ≤ length (view_of terms.now).entries }
+    requires few { run.count ≤ 4 }
+    ensures { numbers_of result ≡ numbers_in (view_of terms.now).entries run.first run.count }
+{
+    let mut given = Table::new(ExprId(0));
+    given.push_each(terms.entries(run), ExprId::read);
+    given
+}
+
+/// Whether nothing changed so far, and this argument did not either.
+pub fn still_same(same: bool, part: ExprId, argument: ExprId) -> bool
+    ensures { result ≡ (same && nat_eq part.0 argument.0) }
+{
+    same && part.0 == argument.0
+}
 
 /// A reference to the alias of a number.
 pub(crate) fn alias_column(tables: &mut Tables, alias: u32) -> Result<ExprId, Fault>
@@ -31,7 +54,7 @@ pub(crate) fn alias_column(tables: &mut Tables, alias: u32) -> Result<ExprId, Fa
 }
 
 /// The alias `e` of `inner`, with `made` in its place; `e` itself where that is the same.
-pub(crate) fn realias(
+pub fn realias(
     tables: &mut Tables,
     e: ExprId,
     inner: ExprId,
@@ -42,7 +65,7 @@ pub(crate) fn realias(
     requires made { made.0 < length (view_in tables.old).trees }
     requires stored { stored_in (view_in tables.old).bytes field ≡ true }
     requires tree { expr_in (view_in tables.old).trees e.0 ≡ alias_tree (expr_in (view_in tables.old).trees inner.0) (stored_field (view_in tables.old).bytes field) }
-    requires small { size_of (expr_in (view_in tables.old).trees made.0) ≤ size_of (expr_in (view_in tables.old).trees inner.0) }
+    requires small { small_tree (alias_tree (expr_in (view_in tables.old).trees made.0) (stored_field (view_in tables.old).bytes field)) ≡ true }
     ensures answer { BuiltBy tables.old (space 1 0 0 0 0) 0 (alias_tree (expr_in (view_in tables.old).trees made.0) (stored_field (view_in tables.old).bytes field)) result tables.new }
     ensures kept { made.0 ≡ inner.0 → result ≡ Ok e }
     ensures begins { TablesBegin tables.old tables.new }
@@ -54,7 +77,7 @@ pub(crate) fn realias(
 }
 
 /// The call `e` of a function with the arguments `given`, with `made` in their place; `e` itself where they are the same.
-pub(crate) fn recall(
+pub fn recall(
     tables: &mut Tables,
     e: ExprId,
     function: u8,
@@ -66,7 +89,7 @@ pub(crate) fn recall(
     requires made { all_below (length (view_in tables.old).trees) (numbers_of made.now) ≡ true }
     requires tree { expr_in (view_in tables.old).trees e.0 ≡ call_tree function (arguments (exprs_in (view_in tables.old).trees (numbers_of given.now))) }
     requires count { length made.now ≡ length given.now }
-    requires small { sizes_of (arguments (exprs_in (view_in tables.old).trees (numbers_of made.now))) ≤ sizes_of (arguments (exprs_in (view_in tables.old).trees (numbers_of given.now))) }
+    requires small { small_tree (call_tree function (arguments (exprs_in (view_in tables.old).trees (numbers_of made.now)))) ≡ true }
     requires totals { any (is_total (view_in tables.old).functions) (exprs_in (view_in tables.old).trees (numbers_of made.now)) ≡ false }
     requires same { same ≡ true → numbers_of made.now ≡ numbers_of given.now }
     ensures answer { BuiltBy tables.old (space 1 0 (length made.now) 0 0) 0 (call_tree function (arguments (exprs_in (view_in tables.old).trees (numbers_of made.now)))) result tables.new }

@@ -7,35 +7,21 @@ ghost use Rattle.plan.specs.Calls.{all_below};
 ghost use Rattle.plan.specs.Functions.{is_marked, placement_of};
 ghost use Rattle.plan.specs.Model.{expr_in, exprs_in};
 ghost use Rattle.routing.specs.Sides.{side_of};
-ghost use Rattle.std.specs.Prelude.{◌≡◌, ◌+◌, ◌<◌, ◌≤◌, true, false, ◌&&◌, [], None, cond, length, nat_eq, option_map, IfOk};
+ghost use Rattle.std.specs.Prelude.{◌≡◌, ◌<◌, ◌≤◌, true, false, [], None, cond, length, option_map, IfOk};
 ghost use Rattle.tables.specs.Begun.{TablesBegin};
 ghost use Rattle.tables.specs.Holding.{nodes_of, plan_count, view_in};
-ghost use Rattle.terms.specs.Build.{numbers_in};
-ghost use Rattle.terms.specs.Views.{numbers_of, view_of};
+ghost use Rattle.terms.specs.Views.{numbers_of};
 
 use crate::extractor::Extractor;
 use crate::inputs::{Inputs, owning_input};
-use crate::rebuilding::{realias, recall};
-use entries::listed::Listed;
-use entries::node::{ExprId, ExprNode, Run};
+use crate::rebuilding::{arguments_of, realias, recall, still_same};
+use entries::node::{ExprId, ExprNode};
 use names::is_prefixed;
 use plan::fault::Fault;
 use routing::owning::Side;
 use routing::placement::placement;
 use table::table::Table;
 use tables::tables::Tables;
-use terms::terms::Terms;
-
-/// The arguments of a call, apart from the tables.
-fn arguments_of(terms: &Terms, run: Run) -> Table<ExprId, 4>
-    requires inside { run.first + run.count ≤ length (view_of terms.now).entries }
-    requires few { run.count ≤ 4 }
-    ensures { numbers_of result ≡ numbers_in (view_of terms.now).entries run.first run.count }
-{
-    let mut given = Table::new(ExprId(0));
-    given.push_each(terms.entries(run), ExprId::read);
-    given
-}
 
 /// The input that owns an expression, if it is Marked.
 fn taken_side(tables: &Tables, inputs: Inputs, e: ExprId) -> Option<Side>
@@ -47,13 +33,6 @@ fn taken_side(tables: &Tables, inputs: Inputs, e: ExprId) -> Option<Side>
         return owning_input(tables, inputs, e);
     }
     None
-}
-
-/// Whether nothing changed so far, and this argument did not either.
-fn still_same(same: bool, part: ExprId, argument: ExprId) -> bool
-    ensures { result ≡ (same && nat_eq part.0 argument.0) }
-{
-    same && part.0 == argument.0
 }
 
 /// The walk through an expression, where there is room for the columns that it comes to need.

@@ -3,3 +3,4 @@ mod Equals
 mod Marking
 mod Nulls
 mod Placing
+pub mod Finding

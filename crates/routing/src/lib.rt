@@ -6,3 +6,4 @@ pub mod marked;
 pub mod owning;
 pub mod placement;
 pub mod same;
+pub mod seeking;

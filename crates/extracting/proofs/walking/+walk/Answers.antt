@@ -2,15 +2,18 @@ use Rattle.std.proofs.Common.{◌≡◌, ◌≤◌, false, List, Err, length, op
 use Rattle.names.specs.Spans.{word}
 use Rattle.plan.specs.Fields.{any}
 use Rattle.plan.specs.Functions.{is_total}
-use Rattle.plan.specs.Model.{expr_in, exprs_in, space}
+use Rattle.plan.specs.Model.{expr_in, exprs_in, no_expr, space}
 use Rattle.plan.specs.Names.{prefixed}
-use Rattle.plan.specs.Terms.{arguments, size_of, sizes_of}
+use Rattle.plan.specs.Questions.{small_tree}
+use Rattle.plan.specs.Terms.{arguments, size_of}
 use Rattle.plan.specs.Terms.Expr.{alias, call}
 use Rattle.rewriting.specs.Routing.{entered, noted}
 use Rattle.routing.specs.Sides.{side_of}
 use Rattle.tables.specs.Holding.{model_of, nodes_of, view_in}
 use Rattle.table.specs.Contents.{part}
+use Rattle.lexicon.proofs.Frames.{every-at}
 use Rattle.terms.proofs.Walks.{counted, few}
+use Rattle.terms.specs.Acceptance.{acceptable}
 use Rattle.terms.specs.Build.{numbers_in}
 use Rattle.entries.specs.Spans.{stored_field}
 use Rattle.entries.specs.declared.node.ExprId.{ExprId}
@@ -19,6 +22,7 @@ use Rattle.entries.specs.declared.node.ExprNode.TheVariants.{Alias, Call, Consta
 use Rattle.extracting.specs.Extractors.{Inside, entries_of, extractor_of}
 use Rattle.extracting.specs.Owners.{owner_by}
 use Rattle.extracting.specs.Walking.{Answered, BuiltBy, walk_in}
+use Rattle.extracting.proofs.Accepted.{alias-small}
 use Rattle.extracting.proofs.Growing.{grows-at-once, longer, tree-stays}
 use Rattle.extracting.proofs.Cases.{at-alias, at-constant, at-prefixed, at-reference, at-taken, field-stays, inner-lower, inputs-stay, inside-here, kept, name-stored, tree-here}
 use Rattle.extracting.proofs.Moving.{given-back}
@@ -133,10 +137,11 @@ realias-requires-clause-small n c =
     let v = view_in t in
     let i = c.in-Alias.inner in
     let f = c.in-Alias.field in
-    let inside = inside-here t c.terms.result.now c.terms.ensures c.args.e.0 (Alias i f) c.in-Alias.ensures.tree c.in-Alias.ensures.inside in
+    let tree = tree-here t c.terms.result.now c.terms.ensures c.args.e.0 (Alias i f) c.in-Alias.ensures.tree c.in-Alias.ensures.inside in
     let a = c.in_ok-made-in-Alias.ensures.answer in
     let s = walk-small v.functions (owner_by v.functions (nodes_of t) c.args.inputs) (expr_in v.trees i.0) (extractor_of v c.args.extractor.now) in
-    omega (arith, s, ap size_of a.tree, ap size_of (tree-stays t u a.grows i.0 (omega (arith, inner-lower t c.args.e.0 i f inside, c.requires.present))))
+    alias-small v.functions (expr_in v.trees c.args.e.0) (expr_in v.trees i.0) (expr_in (view_in u).trees c.in_ok-made-in-Alias.made.0) (stored_field v.bytes f) (stored_field (view_in u).bytes f) tree
+    (every-at (acceptable v.functions) v.trees c.args.e.0 no_expr c.requires.present t.terms.accepted) (omega (arith, s, ap size_of a.tree))
 
 pub returns-in_ok-made-in-Alias-clause-answer : goal.returns-in_ok-made-in-Alias-clause-answer
 returns-in_ok-made-in-Alias-clause-answer n c =
@@ -300,8 +305,8 @@ recall-requires-clause-small n c =
     let u = c.loop-argument.tables in
     let y = c.loop-argument.extractor in
     let k = c.loop-argument.invariant in
-    let s = λ (l : List ExprId). sizes_of (arguments (exprs_in (view_in u).trees (numbers_of l))) in
-    omega (arith, made-small t c.args.inputs e f r given x tree inside given-is c.requires.present c.in_default.ensures u y c.loop-argument.made i c.loop-argument.same k c.loop-argument-test.false, ap s c.as_slice-in-Call.ensures, ap s (c.as_slice-argument-items.ensures ∙ sym c.as_slice.ensures))
+    ap (λ (l : List ExprId). small_tree (call f (arguments (exprs_in (view_in u).trees (numbers_of l))))) c.as_slice-in-Call.ensures
+    ∙ made-small t c.args.inputs e f r given x tree inside given-is c.requires.present c.in_default.ensures u y c.loop-argument.made i c.loop-argument.same k c.loop-argument-test.false
 
 pub recall-requires-clause-totals : goal.recall-requires-clause-totals
 recall-requires-clause-totals n c =

@@ -3,7 +3,7 @@ use Rattle.table.proofs.Pushes.{pushed-map}
 use Rattle.entries.specs.Entries.{entry_number, expr_of}
 use Rattle.terms.specs.Views.{numbers_of}
 use Rattle.entries.specs.declared.node.Entry.{Entry}
-use Rattle.extracting.proofs.walking.arguments_of.Goals as goal
+use Rattle.extracting.proofs.rebuilding.arguments_of.Goals as goal
 
 numbers_read : (xs : List Entry) → numbers_of (map expr_of xs) ≡ map entry_number xs
 numbers_read [] = refl

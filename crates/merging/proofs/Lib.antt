@@ -1,0 +1,12 @@
+pub mod Replaced
+pub mod Following
+pub mod Partly
+pub mod Joined
+pub mod Aliased
+pub mod Pairing
+pub mod Gathering
+pub mod Columning
+pub mod Listing
+pub mod Whole
+pub mod Stepping
+pub mod Read

@@ -1,0 +1,35 @@
+use Rattle.std.proofs.Common.{◌≡◌, List, Err, sym, ap, ◌∙◌, subst, rules}
+use Rattle.plan.specs.Model.{exprs_in}
+use Rattle.plan.specs.Plans.Plan.{projection}
+use Rattle.plan.specs.declared.fault.Stage.TheVariants.{Merge}
+use Rattle.rewriting.specs.Extracting.{made}
+use Rattle.entries.specs.declared.node.ExprId.{ExprId}
+use Rattle.stepping.specs.Steps.{Steps}
+use Rattle.tables.specs.Holding.{model_of, tree_in, view_in}
+use Rattle.terms.specs.Build.{numbers_in}
+use Rattle.terms.specs.Views.{numbers_of, view_of}
+use Rattle.merging.specs.Merging.{merged_outcome}
+use Rattle.merging.proofs.Stepping.{stepped, stopped}
+use Rattle.merging.proofs.merge.merge.Goals as goal
+
+pub returns-in_err-add_all-clause-steps : goal.returns-in_err-add_all-clause-steps
+returns-in_err-add_all-clause-steps c =
+    let t = c.args.tables.now in
+    let x = c.args.extractor.now in
+    let u = c.add_all.new.tables in
+    let l = c.args.list in
+    let is = ap (exprs_in (view_in t).trees) (c.listed-merged.ensures.numbers ∙ ap (λ m. numbers_in (view_of m).entries l.first l.count) c.terms.ensures) in
+    let d = c.in_err-add_all.field-0.0 in
+    let is-err : c.from_residual.result ≡ Err d = search rules in
+    subst (λ q. Steps (model_of t) x.next (merged_outcome t x c.args.side c.args.under l) q (model_of u)) (sym is-err)
+    (stopped t x c.args.side c.args.under l c.listed-merged.result is c.requires.only d c.add_all.new.list u (model_of u) c.in_err-add_all.ensures.answer)
+
+pub returns-clause-steps : goal.returns-clause-steps
+returns-clause-steps c =
+    let t = c.args.tables.now in
+    let x = c.args.extractor.now in
+    let u = c.add_all.new.tables in
+    let l = c.args.list in
+    let is = ap (exprs_in (view_in t).trees) (c.listed-merged.ensures.numbers ∙ ap (λ m. numbers_in (view_of m).entries l.first l.count) c.terms.ensures) in
+    stepped t x c.args.side c.args.under l c.listed-merged.result is c.add_all.new.list u c.in_ok-add_all.ensures.answer c.make_at.result (model_of c.make_at.new.tables)
+    (subst (λ (ids : List ExprId). Steps (model_of u) 0 (made (view_in u).functions Merge 0 (projection (exprs_in (view_in u).trees (numbers_of ids)) (tree_in u c.args.under.0))) c.make_at.result (model_of c.make_at.new.tables)) c.as_slice.ensures c.make_at.ensures.steps)
