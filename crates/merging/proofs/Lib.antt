@@ -10,3 +10,4 @@ pub mod Listing
 pub mod Whole
 pub mod Stepping
 pub mod Read
+pub mod Plain

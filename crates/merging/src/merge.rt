@@ -19,6 +19,7 @@ ghost use Rattle.rewriting.specs.Routing.{same_side, unalias};
 ghost use Rattle.routing.specs.Sides.{side_of};
 ghost use Rattle.std.specs.Prelude.{◌≡◌, ◌+◌, ◌<◌, ◌≤◌, true, false, length, map};
 ghost use Rattle.stepping.specs.Lists.{at_side};
+ghost use Rattle.stepping.specs.Lists.{NoTotals, at_side};
 ghost use Rattle.stepping.specs.Steps.{Steps};
 ghost use Rattle.entries.specs.Spans.{stored_field, stored_in};
 ghost use Rattle.tables.specs.Begun.{TablesBegin};
@@ -278,6 +279,7 @@ pub fn merge(
     requires reads { IsProjection tables.old input.0 under list }
     requires inside { Inside (view_in tables.old) extractor.now }
     requires totals { any (is_total (view_in tables.old).functions) (run_exprs (view_in tables.old) list) ≡ false }
+    requires plain { NoTotals (view_in tables.old).functions (at_side (view_in tables.old) extractor.now side) }
     requires known { AllKnown (fields_at tables.old input.0) (needed_at (view_in tables.old) extractor.now side) }
     requires only { OnlyEight (view_in tables.old).functions (merged_tree tables.old extractor.now side under list) }
     ensures steps { Steps (model_of tables.old) extractor.now.next (merged_outcome tables.old extractor.now side under list) result (model_of tables.new) }
