@@ -25,18 +25,18 @@ module _ (F : Functions) where
   none-at (e ∷ es) zero d h k = (either-no (is_total F e) (any (is_total F) es) h).0
   none-at (e ∷ es) (suc i) d h k = none-at es i d (either-no (is_total F e) (any (is_total F) es) h).1 k
 
+  behind-one : (e : Expr) → is_total F (unalias e) ≡ is_total F e
+  unfolding unalias
+  behind-one (literal v) = refl
+  behind-one (reference r) = refl
+  behind-one (alias d f) = refl
+  behind-one (call n ds) = refl
+
   behind-plain : (es : List Expr) → any (is_total F) es ≡ false → any (is_total F) (map unalias es) ≡ false
   behind-plain [] h = refl
   behind-plain (e ∷ es) h =
       let p = either-no (is_total F e) (any (is_total F) es) h in
-      ap₂ (λ a b. a || b) (same e ∙ p.0) (behind-plain es p.1)
-    where
-      same : (e : Expr) → is_total F (unalias e) ≡ is_total F e
-      unfolding unalias
-      same (literal v) = refl
-      same (reference r) = refl
-      same (alias d f) = refl
-      same (call n ds) = refl
+      ap₂ (λ a b. a || b) (behind-one e ∙ p.0) (behind-plain es p.1)
 
   module _ (m : ReplaceMap) (behind : any (is_total F) m.1 ≡ false) where
     replaced-plain : (e : Expr) → is_total F e ≡ false → is_total F (replace_cols_by_name m e) ≡ false

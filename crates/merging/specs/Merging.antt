@@ -1,9 +1,8 @@
--- Pairs and needed columns that are merged into a list; cited by src/merge.rt.
---     pair_of v d      what was taken out, less one alias, and its alias
---     columns_at v s n, needed_at v x s      a needed column as the only one, if it is of the input s; all that the extractor x has for s
+-- Pairs and needed columns that are merged into a list; cited by src/merge.rt, src/pairs.rt and src/columns.rt.
+--     pair_of v d, pairs_at v s d      what was taken out, less one alias, and its alias; as the only pair, or none where it is of another input than s
+--     columns_at v s n, needed_at v x s      a needed column as the only one, or none where it is of another input; all that the extractor x has for s
 --     AllKnown fs cs      each column means one of the fields fs
 --     pair_in m p      a pair as an expression over the input, where m has what is behind the fields
---     pairs_at v s d      it, as the only pair; none where it is of another input than s
 --     pairs_in m ps acc      the list acc with pairs, as `add_pairs` has it
 --     columns_in F ins m cs acc      the list with needed columns, as `add_columns` has it
 --     merged_list F ins es ps cs      the list es with pairs and needed columns

@@ -10,7 +10,7 @@ use Rattle.extracting.specs.Extractors.{entries_of}
 use Rattle.merging.specs.Merging.{pair_in, pairs_in}
 use Rattle.merging.specs.Replacing.{map_of}
 use Rattle.merging.proofs.Gathering.{Gathering}
-use Rattle.merging.proofs.merge.add_pairs.Given as goal
+use Rattle.merging.proofs.pairs.add_pairs.Given as goal
 
 -- the pairs so far are merged
 abbrev pub invariant-loop-entry : goal.invariant-loop-entry

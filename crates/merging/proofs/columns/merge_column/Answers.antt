@@ -7,7 +7,7 @@ use Rattle.tables.specs.Holding.{fields_at, view_in}
 use Rattle.terms.specs.Views.{tree_of, view_of}
 use Rattle.merging.specs.Replacing.{map_of}
 use Rattle.merging.proofs.Columning.{found, left-out, taken-in}
-use Rattle.merging.proofs.merge.merge_column.Goals as goal
+use Rattle.merging.proofs.columns.merge_column.Goals as goal
 
 pub returns-then-not-is_same : goal.returns-then-not-is_same
 returns-then-not-is_same c =

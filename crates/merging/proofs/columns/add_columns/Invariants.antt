@@ -8,7 +8,7 @@ use Rattle.extracting.specs.Extractors.{needs_of}
 use Rattle.merging.specs.Merging.{columns_in, needed_at}
 use Rattle.merging.specs.Replacing.{map_of}
 use Rattle.merging.proofs.Columning.{Columning}
-use Rattle.merging.proofs.merge.add_columns.Given as goal
+use Rattle.merging.proofs.columns.add_columns.Given as goal
 
 -- the columns so far are merged
 abbrev pub invariant-loop-column : goal.invariant-loop-column

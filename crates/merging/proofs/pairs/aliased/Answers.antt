@@ -8,7 +8,7 @@ use Rattle.rewriting.specs.Generated.{countable}
 use Rattle.tables.specs.Answering.{answered_expr}
 use Rattle.tables.specs.Holding.{model_of}
 use Rattle.merging.proofs.Aliased.{alias-built}
-use Rattle.merging.proofs.merge.aliased.Goals as goal
+use Rattle.merging.proofs.pairs.aliased.Goals as goal
 
 pub returns-clause-answer : goal.returns-clause-answer
 unfolding countable

@@ -12,7 +12,7 @@ use Rattle.merging.specs.Joining.{ListedBy}
 use Rattle.merging.specs.Merging.{GatheredBy, pair_in, pair_of}
 use Rattle.merging.specs.Replacing.{map_of, replaced}
 use Rattle.merging.proofs.Pairing.{alias-answer, gathered, list-there, refused-inner, refused-size}
-use Rattle.merging.proofs.merge.merge_pair.Goals as goal
+use Rattle.merging.proofs.pairs.merge_pair.Goals as goal
 
 pub returns-then-replaced_size-gt255-clause-answer : goal.returns-then-replaced_size-gt255-clause-answer
 returns-then-replaced_size-gt255-clause-answer c =

@@ -11,7 +11,7 @@ use Rattle.merging.specs.Merging.{PairsMerged, pair_in, pairs_at, pairs_in}
 use Rattle.merging.specs.Replacing.{map_of}
 use Rattle.merging.proofs.Following.{map-inside, totals-stay}
 use Rattle.merging.proofs.Gathering.{entries-end, entry-early, entry-inside, entry-next, gathered-all, gathering-none, refused, turn}
-use Rattle.merging.proofs.merge.add_pairs.Goals as goal
+use Rattle.merging.proofs.pairs.add_pairs.Goals as goal
 
 abbrev blank : Extracted
 blank = record { side = First; inner = record { 0 = 0 }; alias = 0 }

@@ -8,7 +8,7 @@ use Rattle.merging.specs.Joining.{Listed, ListedBy, WithinBy}
 use Rattle.merging.specs.Merging.{AllKnown, columns_at, columns_in, needed_at}
 use Rattle.merging.specs.Replacing.{map_of}
 use Rattle.merging.proofs.Columning.{column-next, columns-end, known-here, listed-all, refused, turn}
-use Rattle.merging.proofs.merge.add_columns.Goals as goal
+use Rattle.merging.proofs.columns.add_columns.Goals as goal
 
 abbrev blank : Needed
 blank = record { side = First; field = record { qualifier = None; name = record { start = 0; len = 0 } } }

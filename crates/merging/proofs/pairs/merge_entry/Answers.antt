@@ -1,6 +1,6 @@
 use Rattle.std.proofs.Common.{sym, ◌∙◌}
 use Rattle.merging.proofs.Gathering.{left-out, taken-in}
-use Rattle.merging.proofs.merge.merge_entry.Goals as goal
+use Rattle.merging.proofs.pairs.merge_entry.Goals as goal
 
 pub returns-then-not-is_same-clause-answer : goal.returns-then-not-is_same-clause-answer
 returns-then-not-is_same-clause-answer c =
