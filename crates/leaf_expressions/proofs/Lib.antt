@@ -2,4 +2,6 @@ mod Spending
 mod Halves
 mod Renamed
 mod Projected
+mod Sole
 mod Twice
+mod Grouped

@@ -18,7 +18,7 @@ use Rattle.plan.specs.Terms.{Expr}
 use Rattle.plan.specs.declared.fault.Fault.{Fault}
 use Rattle.rewriting.specs.Outlay.{list_space}
 use Rattle.rewriting.specs.Routing
-use Rattle.rewriting.specs.Routing.{Side, routing_extract_all}
+use Rattle.rewriting.specs.Routing.{routing_extract_all}
 use Rattle.stepping.proofs.Chain.{fits-no-more}
 use Rattle.tables.specs.Holding.{model_of, nodes_of, view_in}
 use Rattle.tables.specs.declared.tables.Tables.{Tables}

@@ -4,12 +4,13 @@ ghost use Rattle.leaf_expressions.specs.Walks.{BothAnswered, both_in};
 ghost use Rattle.plan.specs.Calls.{all_below};
 ghost use Rattle.plan.specs.Model.{exprs_in};
 ghost use Rattle.plan.specs.Plans.Plan.{aggregate};
-ghost use Rattle.std.specs.Prelude.{◌≡◌, ◌<◌, ◌≤◌, true, length};
+ghost use Rattle.rewriting.specs.Routing.{has_extractable_expr};
+ghost use Rattle.std.specs.Prelude.{◌≡◌, ◌<◌, ◌≤◌, true, ◌++◌, length};
 ghost use Rattle.stepping.specs.Steps.{AllGood};
 ghost use Rattle.stored.specs.Stored.{list_in, run_exprs};
 ghost use Rattle.tables.specs.Begun.{TablesBegin};
 ghost use Rattle.tables.specs.Holding.{model_of, plan_count, tree_in, view_in};
-ghost use Rattle.terms.specs.Views.{numbers_of};
+ghost use Rattle.terms.specs.Views.{AllPresent, numbers_of, view_of};
 
 use crate::over::rebuilt_over;
 use crate::shape::Shape;
@@ -23,6 +24,16 @@ use routing::marked::has_extractable_expr;
 use swapping::copying::copied;
 use table::table::Table;
 use tables::tables::Tables;
+use terms::terms::Terms;
+
+/// Whether something Marked stands in one of two lists.
+fn has_extractable(terms: &Terms, groups: &[ExprId], totals: &[ExprId]) -> bool
+    requires groups { AllPresent terms.now groups.now }
+    requires totals { AllPresent terms.now totals.now }
+    ensures { result ≡ has_extractable_expr (view_of terms.now).functions (exprs_in (view_of terms.now).trees (numbers_of groups.now) ++ exprs_in (view_of terms.now).trees (numbers_of totals.now)) }
+{
+    has_extractable_expr(terms, groups) || has_extractable_expr(terms, totals)
+}
 
 /// What the walks leave of the groups and of the totals, and what they found.
 #[derive(Drop)]
@@ -79,9 +90,7 @@ pub(crate) fn extract_aggregate(
 {
     let by: Table<ExprId, 16> = copied(tables.terms().entries(groups));
     let of: Table<ExprId, 16> = copied(tables.terms().entries(totals));
-    if !has_extractable_expr(tables.terms(), by.as_slice())
-        && !has_extractable_expr(tables.terms(), of.as_slice())
-    {
+    if !has_extractable(tables.terms(), by.as_slice(), of.as_slice()) {
         return Ok(None);
     }
     let routed = route(tables, input, by.as_slice(), of.as_slice())?;
