@@ -6,3 +6,6 @@ mod Shaped
 mod Covered
 mod Pairs
 mod Attempted
+mod Sole
+mod Twice
+mod Grouped
