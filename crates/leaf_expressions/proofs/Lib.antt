@@ -2,3 +2,5 @@ mod Spending
 mod Halves
 mod Renamed
 mod Projected
+mod Later
+mod Beside

@@ -51,7 +51,7 @@ fn rebuilt_over_two(
     requires there { all_below (length (view_in tables.old).trees) (numbers_of on.now) ≡ true }
     requires short { length on.now ≤ 16 }
     requires renamed { (x y : Plan) → Wider (fields_of (view_in tables.old).functions x) (fields_at tables.old left.0) → Wider (fields_of (view_in tables.old).functions y) (fields_at tables.old right.0) → Renamed (fields_at tables.old p.0) (fields_of (view_in tables.old).functions (join kind (exprs_in (view_in tables.old).trees (numbers_of on.now)) x y)) }
-    ensures steps { Steps (model_of tables.old) extractor.now.next (over_two tables.old extractor.now left.0 right.0 (fields_at tables.old p.0) (join kind.entry (exprs_in (view_in tables.old).trees (numbers_of on.now)))) result (model_of tables.new) }
+    ensures steps { Steps (model_of tables.old) extractor.now.next (over_two tables.old extractor.now left.0 right.0 (fields_at tables.old p.0) (join kind (exprs_in (view_in tables.old).trees (numbers_of on.now)))) result (model_of tables.new) }
     ensures last { IfOk result (λ r. (plan_count tables.old ≤ r.0) × (r.0 + 1 ≡ plan_count tables.new)) }
     ensures begins { TablesBegin tables.old tables.new }
 {
