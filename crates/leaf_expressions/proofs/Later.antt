@@ -1,5 +1,5 @@
 -- What was said of the tables before expressions and nodes were put behind, of the tables after it.
-use Rattle.std.proofs.Common.{◌≡◌, ℕ, ◌+◌, ◌<◌, ◌≤◌, true, List, length, get_or, sym, ap, ap₂, ◌∙◌, subst, arith, length-append}
+use Rattle.std.proofs.Common.{◌≡◌, ℕ, ◌<◌, true, List, length, get_or, sym, ap, ap₂, ◌∙◌, subst, arith, length-append}
 use Rattle.std.proofs.lemmas.List.{get_or_append_left}
 use Rattle.std.specs.List.{AllByRecursion}
 use Rattle.entries.specs.declared.node.ExprId.{ExprId}
@@ -30,12 +30,12 @@ use Rattle.terms.specs.Views.{numbers_of}
 use Rattle.leaf_expressions.specs.Found.{Found, needed_at, projected}
 
 -- what is asked of an input, apart from the tables
-record Fit (F : Functions) (p : Plan) (ps : List Pair) (cs : List Field) : Type 0 where
-  only : OnlyEight F (build_extraction_projection_impl F p ps cs)
-  known : AllByRecursion (λ d. Known (fields_of F p) d.0) ps
-  plain : NoTotals F ps
+pub record Fit (F : Functions) (p : Plan) (ps : List Pair) (cs : List Field) : Type 0 where
+  pub only : OnlyEight F (build_extraction_projection_impl F p ps cs)
+  pub known : AllByRecursion (λ d. Known (fields_of F p) d.0) ps
+  pub plain : NoTotals F ps
 
-fit-same : (F G : Functions) (p q : Plan) (ps rs : List Pair) (cs ds : List Field) → F ≡ G → p ≡ q → ps ≡ rs → cs ≡ ds → Fit F p ps cs → Fit G q rs ds
+pub fit-same : (F G : Functions) (p q : Plan) (ps rs : List Pair) (cs ds : List Field) → F ≡ G → p ≡ q → ps ≡ rs → cs ≡ ds → Fit F p ps cs → Fit G q rs ds
 fit-same F G p q ps rs cs ds f n k c h = subst (λ F. Fit F q rs ds) f (subst (λ p. Fit F p rs ds) n (subst (λ ps. Fit F p ps ds) k (subst (λ cs. Fit F p ps cs) c h)))
 
 module _ (t u : Tables) (g : Extends (model_of t) (model_of u)) where

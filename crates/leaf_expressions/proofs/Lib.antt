@@ -4,3 +4,4 @@ mod Renamed
 mod Projected
 mod Later
 mod Beside
+mod Joins
