@@ -9,3 +9,6 @@ mod Attempted
 mod Sole
 mod Twice
 mod Grouped
+mod Later
+mod Beside
+mod Joins
