@@ -2,3 +2,4 @@ mod Spending
 mod Halves
 mod Renamed
 mod Projected
+mod Sole
