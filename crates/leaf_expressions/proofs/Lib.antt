@@ -3,3 +3,4 @@ mod Halves
 mod Renamed
 mod Projected
 mod Sole
+mod Filtered

@@ -4,20 +4,24 @@
 --     FoundFor F p s g, found-later      `Found` apart from the tables, and in tables that have grown
 --     walked t i es      the walk through the expressions es over the node i
 --     found-walk, found-one      what it finds for the input
+--     marked-lent      whether something is Marked, asked of the terms
+--     renamed-same      fields that may have their names, where they are those of the input
 --     finish t p i g b      the second half: the input with what was found, and the node b rebuilt over it with the fields of p
 --     none-marked, none-new, stopped, refused-then, built-then      the ways out
-use Rattle.std.proofs.Common.{◌≡◌, ℕ, ◌+◌, ◌<◌, ◌≤◌, true, false, List, [], ◌∷◌, ◌++◌, length, Some, None, Ok, Err, Option, Result, sym, refl, ap, ap₂, ◌∙◌, subst, arith}
+use Rattle.std.proofs.Common.{◌≡◌, ℕ, ◌+◌, ◌<◌, ◌≤◌, Bool, true, false, List, [], ◌∷◌, ◌++◌, length, Some, None, Ok, Err, Option, Result, inl, inr, sym, refl, ap, ap₂, ◌∙◌, subst, arith}
 use Rattle.std.specs.List.{AllByRecursion}
+use Rattle.entries.specs.declared.node.ExprId.{ExprId}
 use Rattle.entries.specs.declared.node.PlanId.{PlanId}
 use Rattle.extracting.proofs.Rewritten.{Onward, walk-onward}
 use Rattle.extracting.specs.Extractors.{extractor_of}
 use Rattle.extracting.specs.Walking.{Grows, Numbered, Stopped}
 use Rattle.extracting.specs.declared.extractor.Extractor.{Extractor}
 use Rattle.plan.specs.Functions.{Functions}
-use Rattle.plan.specs.Model.{Model, Node, Within, count_of, plan_in}
+use Rattle.plan.specs.Model.{Model, Node, Within, count_of, exprs_in, plan_in}
 use Rattle.plan.specs.Plans.{Plan, fields_of}
 use Rattle.plan.specs.Terms.{Expr, Field}
 use Rattle.plan.specs.declared.fault.Fault.{Fault}
+use Rattle.recovering.specs.Renaming.{can_rename}
 use Rattle.rewriting.proofs.Limits.{only-limited}
 use Rattle.rewriting.proofs.Takings.{list-plain, pairs-plain, walks-sound}
 use Rattle.rewriting.specs.Extracting.{Outcome, and_then, build_extraction_projection, build_extraction_projection_impl, rebuilt}
@@ -36,10 +40,13 @@ use Rattle.stored.specs.Stored.{node_trees}
 use Rattle.tables.proofs.Inputs.{tree-at}
 use Rattle.tables.specs.Holding.{fields_at, model_of, plan_count, tree_in, view_in}
 use Rattle.tables.specs.declared.tables.Tables.{Tables}
+use Rattle.terms.specs.Views.{numbers_of, view_of}
+use Rattle.terms.specs.declared.terms.Terms.{Terms}
 use Rattle.leaf_expressions.proofs.Halves.{half-built, half-refused, nothing-marked, nothing-new, walk-stopped, whole}
+use Rattle.leaf_expressions.proofs.Renamed.{can-rename-self}
 use Rattle.leaf_expressions.proofs.Spending.{Spending, projection-spends, rebuilt-spends, then-spends}
 use Rattle.leaf_expressions.specs.Comes.{Comes, extracted}
-use Rattle.leaf_expressions.specs.Found.{Found, over_one}
+use Rattle.leaf_expressions.specs.Found.{Found, Renamed, Wider, over_one}
 
 module _ (F : Functions) (own : Expr → Option InputSide) where
   pub list-onward : (es : List Expr) (g : Routing.Extractor) → Onward g (routing_extract_all F own es g).1
@@ -107,6 +114,16 @@ module _ (t : Tables) (i : ℕ) (good : AllGood (model_of t)) (lt : i < plan_cou
 
   pub found-one : (es : List Expr) (u : Tables) (x : Extractor) → AllByRecursion (Known (fields_at t i)) es → Grows (model_of t) (model_of u) → extractor_of (view_in u) x ≡ (walked t i es).1 → Found u x First i
   found-one es u x known grows is = found-later t u First i x (walked t i es).1 grows is (found-walk es known (sym (ap (λ (g : Routing.Extractor). g.full) is)))
+
+-- whether something is Marked, as it was asked of the terms of the tables
+pub marked-lent : (t : Tables) (s : Terms) (ids : List ExprId) (a b : Bool) → s ≡ t.terms → a ≡ has_extractable_expr (view_of s).functions (exprs_in (view_of s).trees (numbers_of ids)) → a ≡ b
+    → has_extractable_expr (view_in t).functions (exprs_in (view_in t).trees (numbers_of ids)) ≡ b
+marked-lent t s ids a b e h k = ap (λ (x : Terms). has_extractable_expr (view_of x).functions (exprs_in (view_of x).trees (numbers_of ids))) (sym e) ∙ sym h ∙ k
+
+-- fields that are the input's, where the input has the same fields or more
+pub renamed-same : (fs gs hs : List Field) → fs ≡ hs → Wider gs hs → Renamed fs gs
+renamed-same fs gs hs e (inl h) = λ l. subst (λ (ks : List Field). can_rename fs ks ≡ true) (e ∙ sym h) (can-rename-self fs)
+renamed-same fs gs hs e (inr h) = λ l. absurd (omega (arith, ap length e))
 
 -- the second half, of any extractor
 abbrev pub finish_with : Functions → Plan → Routing.Extractor → List Field → (Plan → Plan) → Tally → Outcome
