@@ -12,3 +12,4 @@ mod Grouped
 mod Later
 mod Beside
 mod Joins
+mod Filtered
