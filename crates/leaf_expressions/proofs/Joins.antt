@@ -141,6 +141,7 @@ module _ (t : Tables) (p l r : ℕ) (kind : JoinKind) (es : List Expr) where
           record {
             only = only-limited F (tree_in t i) (pairs_of s walked.1.entries) (needed_of s walked.1.needed) (next_number m) walked.1.next (good-at i lt) sound;
             known = sound.pairs;
+            columns = sound.columns;
             plain = pairs-plain F s walked.1.entries (list-plain F own (fl ++ fr) es (empty_extractor (next_number m)) known (unfold empty_extractor in tt));
           }
 
@@ -168,7 +169,7 @@ module _ (t : Tables) (p l r : ℕ) (kind : JoinKind) (es : List Expr) where
         pub found-at : (s : Place) (i : ℕ) → i < plan_count t → sides_fields fl fr (side_of s) ≡ fields_at t i → Found u x s i
         found-at s i lt e =
             let there = fit-same F (view_in u).functions (tree_in t i) (tree_in u i) _ _ _ _ (sym a.grows.functions) (sym (trees-same i)) (ap (λ (g : Extractor). pairs_of (side_of s) g.entries) (sym a.extractor)) (ap (λ (g : Extractor). needed_of (side_of s) g.needed) (sym a.extractor)) (fit-at (side_of s) i lt e not-full) in
-            record { only = there.only; known = there.known; plain = there.plain }
+            record { only = there.only; known = there.known; plain = there.plain; columns = there.columns }
 
         pub short : length ids ≡ length es
         short = sym (exprs-length (view_in u).trees ids) ∙ ap length a.trees ∙ all-counted F own es (empty_extractor (next_number m))

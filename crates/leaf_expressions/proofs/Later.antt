@@ -10,6 +10,7 @@ use Rattle.plan.specs.Calls.{all_below}
 use Rattle.plan.specs.Functions.{Functions}
 use Rattle.plan.specs.Model.{exprs_in, no_node}
 use Rattle.plan.specs.Plans.{Plan, fields_of}
+use Rattle.plan.specs.Terms.Expr.{reference}
 use Rattle.plan.specs.Terms.{Field}
 use Rattle.recovering.proofs.Rebuilt.{more-nodes}
 use Rattle.rewriting.specs.Extracting.{build_extraction_projection, build_extraction_projection_impl}
@@ -34,6 +35,7 @@ pub record Fit (F : Functions) (p : Plan) (ps : List Pair) (cs : List Field) : T
   pub only : OnlyEight F (build_extraction_projection_impl F p ps cs)
   pub known : AllByRecursion (λ d. Known (fields_of F p) d.0) ps
   pub plain : NoTotals F ps
+  pub columns : AllByRecursion (λ c. Known (fields_of F p) (reference c)) cs
 
 pub fit-same : (F G : Functions) (p q : Plan) (ps rs : List Pair) (cs ds : List Field) → F ≡ G → p ≡ q → ps ≡ rs → cs ≡ ds → Fit F p ps cs → Fit G q rs ds
 fit-same F G p q ps rs cs ds f n k c h = subst (λ F. Fit F q rs ds) f (subst (λ p. Fit F p rs ds) n (subst (λ ps. Fit F p ps ds) k (subst (λ cs. Fit F p ps cs) c h)))
@@ -73,6 +75,6 @@ module _ (t u : Tables) (g : Extends (model_of t) (model_of u)) where
 
       pub found-stays : Found t x s i → Found u x s i
       found-stays h =
-          let here : Fit (view_in t).functions (tree_in t i) (at_side (view_in t) x s) (needed_at (view_in t) x s) = record { only = h.only; known = h.known; plain = h.plain } in
+          let here : Fit (view_in t).functions (tree_in t i) (at_side (view_in t) x s) (needed_at (view_in t) x s) = record { only = h.only; known = h.known; plain = h.plain; columns = h.columns } in
           let there = fit-same _ _ _ _ _ _ _ _ (sym g.functions) (sym (node-stays i lt)) (sym pairs-stay) (sym needed-stays) here in
-          record { only = there.only; known = there.known; plain = there.plain }
+          record { only = there.only; known = there.known; plain = there.plain; columns = there.columns }

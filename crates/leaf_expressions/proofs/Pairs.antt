@@ -1,5 +1,5 @@
 -- Which Projection an input gets: none where nothing was taken out for it, a merge where it is a Projection, else a fresh one.
-use Rattle.std.proofs.Common.{◌≡◌, ℕ, Bool, true, false, cond, ◌||◌, List, [], ◌∷◌, map, Ok, Err, Result, refl, sym, ap, ap₂, ◌∙◌, subst, arith}
+use Rattle.std.proofs.Common.{◌≡◌, ℕ, Bool, true, false, cond, not, ◌||◌, List, [], ◌∷◌, map, Ok, Err, Result, refl, sym, ap, ap₂, ◌∙◌, subst, arith}
 use Rattle.entries.specs.declared.node.PlanId.{PlanId}
 use Rattle.extracting.specs.Extractors.{entries_of, entry_of}
 use Rattle.extracting.specs.declared.extractor.Extracted.{Extracted}
@@ -142,3 +142,7 @@ module _ (F : Functions) (ps : List Pair) (cs : List Field) where
       → build_extraction_projection F 0 (projection es i) ps cs n ≡ made F Merge 0 (projection (merged F i es ps cs) i) (charged (extraction_space F (projection es i) ps cs) n)
   unfolding stage_of build_extraction_projection_impl
   merged-taken es i n h = some-taken F (projection es i) ps cs n h
+
+pub not-yes : (b : Bool) → not b ≡ true → b ≡ false
+not-yes true h = absurd (let z : ◌≡◌ {A = ℕ} 0 1 = cc in omega arith)
+not-yes false h = refl

@@ -19,6 +19,7 @@ use Rattle.extracting.specs.declared.extractor.Extractor.{Extractor}
 use Rattle.plan.specs.Functions.{Functions}
 use Rattle.plan.specs.Model.{Model, Node, Within, count_of, exprs_in, plan_in}
 use Rattle.plan.specs.Plans.{Plan, fields_of}
+use Rattle.plan.specs.Terms.Expr.{reference}
 use Rattle.plan.specs.Terms.{Expr, Field}
 use Rattle.plan.specs.declared.fault.Fault.{Fault}
 use Rattle.recovering.specs.Renaming.{can_rename}
@@ -74,13 +75,14 @@ pub record FoundFor (F : Functions) (p : Plan) (s : InputSide) (g : Routing.Extr
   pub only : OnlyEight F (build_extraction_projection_impl F p (pairs_of s g.entries) (needed_of s g.needed))
   pub known : AllByRecursion (λ d. Known (fields_of F p) d.0) (pairs_of s g.entries)
   pub plain : NoTotals F (pairs_of s g.entries)
+  pub columns : AllByRecursion (λ c. Known (fields_of F p) (reference c)) (needed_of s g.needed)
 
 pub found-later : (t u : Tables) (s : Side) (i : ℕ) (x : Extractor) (g : Routing.Extractor) → Grows (model_of t) (model_of u) → extractor_of (view_in u) x ≡ g → FoundFor (view_in t).functions (tree_in t i) (side_of s) g → Found u x s i
 found-later t u s i x g grows is h =
     let a : FoundFor (view_in t).functions (tree_in t i) (side_of s) (extractor_of (view_in u) x) = subst (FoundFor (view_in t).functions (tree_in t i) (side_of s)) (sym is) h in
     let b : FoundFor (view_in t).functions (tree_in u i) (side_of s) (extractor_of (view_in u) x) = subst (λ p. FoundFor (view_in t).functions p (side_of s) (extractor_of (view_in u) x)) (sym (plan-stays t u grows i)) a in
     let c : FoundFor (view_in u).functions (tree_in u i) (side_of s) (extractor_of (view_in u) x) = subst (λ F. FoundFor F (tree_in u i) (side_of s) (extractor_of (view_in u) x)) (sym grows.functions) b in
-    record { only = c.only; known = c.known; plain = c.plain }
+    record { only = c.only; known = c.known; plain = c.plain; columns = c.columns }
 
 abbrev pub walked : Tables → ℕ → List Expr → List Expr × Routing.Extractor
 walked t i es = routing_extract_all (view_in t).functions (find_sole_input (schema_columns (fields_at t i))) es (empty_extractor (next_number (model_of t)))
@@ -109,6 +111,7 @@ module _ (t : Tables) (i : ℕ) (good : AllGood (model_of t)) (lt : i < plan_cou
       record {
         only = only-limited F p (pairs_of one g.entries) (needed_of one g.needed) n g.next good-here sound;
         known = sound.pairs;
+        columns = sound.columns;
         plain = pairs-plain F one g.entries (list-plain F (find_sole_input (schema_columns fs)) fs es (empty_extractor n) known tt);
       }
 

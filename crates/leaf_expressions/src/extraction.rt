@@ -11,6 +11,7 @@ ghost use Rattle.tables.specs.Holding.{model_of, plan_count, view_in};
 
 use entries::node::PlanId;
 use extracting::extractor::Extractor;
+use merging::merge::merge;
 use plan::fault::Fault;
 use projecting::fresh::{freshly, is_of};
 use routing::owning::Side;
@@ -42,7 +43,9 @@ pub(crate) fn build_extraction_projection(
         return Ok(input);
     }
     match tables.record_of(input).node {
-        PlanNode::Projection { .. } => Ok(input),
+        PlanNode::Projection { input: under, list } => {
+            merge(tables, extractor, side, input, under, list)
+        }
         _ => freshly(tables, extractor, side, input),
     }
 }
