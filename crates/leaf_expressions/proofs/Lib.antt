@@ -4,3 +4,4 @@ mod Renamed
 mod Projected
 mod Sole
 mod Filtered
+mod Keying
