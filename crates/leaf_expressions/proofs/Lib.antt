@@ -5,3 +5,4 @@ mod Projected
 mod Sole
 mod Filtered
 mod Keying
+mod Sorted
