@@ -13,3 +13,5 @@ mod Later
 mod Beside
 mod Joins
 mod Filtered
+mod Keying
+mod Sorted
