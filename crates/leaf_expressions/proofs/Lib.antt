@@ -15,3 +15,4 @@ mod Joins
 mod Filtered
 mod Keying
 mod Sorted
+mod Unchanged

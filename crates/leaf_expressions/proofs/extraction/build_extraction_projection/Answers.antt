@@ -76,7 +76,7 @@ merge-requires c =
     let v = view_in t in
     let l = c.in-Projection.list in
     let r = c.record_of.ensures in
-    let is = is-projection t i.0 c.in-Projection.input l (as-node t i.0 c.record_of.result (Projection c.in-Projection.input l) r c.in-Projection.is) in
+    let is = is-projection t i.0 c.in-Projection.under l (as-node t i.0 c.record_of.result (Projection c.in-Projection.under l) r c.in-Projection.is) in
     let formed : not (any (is_total v.functions) (run_exprs v l)) ≡ true = sym (ap (well_formed v.functions) is.tree) ∙ r.formed in
     record {
       present = c.requires.input;
@@ -85,7 +85,7 @@ merge-requires c =
       totals = not-yes (any (is_total v.functions) (run_exprs v l)) formed;
       plain = c.requires.found.plain;
       known = c.requires.found.columns;
-      only = subst (OnlyEight v.functions) (merged-tree v.functions (at_side v x s) (needed_at v x s) (run_exprs v l) (tree_in t c.in-Projection.input.0))
+      only = subst (OnlyEight v.functions) (merged-tree v.functions (at_side v x s) (needed_at v x s) (run_exprs v l) (tree_in t c.in-Projection.under.0))
           (subst (λ p. OnlyEight v.functions (build_extraction_projection_impl v.functions p (at_side v x s) (needed_at v x s))) is.tree c.requires.found.only);
     }
 
@@ -97,7 +97,7 @@ returns-in-Projection-clause-steps c =
     let i = c.args.input in
     let v = view_in t in
     let l = c.in-Projection.list in
-    let under = c.in-Projection.input in
+    let under = c.in-Projection.under in
     let is = is-projection t i.0 under l (as-node t i.0 c.record_of.result (Projection under l) c.record_of.ensures c.in-Projection.is) in
     let some = pairs-some v s x.entries (sym c.if-not-has_pairs.ensures) in
     steps-as (model_of t) (model_of c.merge.new.tables) x.next (merged_outcome t x s under l) (projected t x s i.0) c.merge.result
