@@ -10,6 +10,16 @@ use Rattle.rewriting.specs.Reached.{Reached}
 use Rattle.rewriting.proofs.Building.{all_yes}
 use Rattle.rewriting.proofs.Reached.{reached-opened as opened-reached, reached-agree}
 use Rattle.book.specs.Opened.{SameReport, Told}
+use Rattle.leaf_expressions.specs.Comes.{extracted}
+use Rattle.plan.specs.Calls.{Answer}
+use Rattle.rewriting.specs.Book.Request.{extract}
+use Rattle.rewriting.specs.Book.{Answers, Rewrites}
+use Rattle.rewriting.specs.Extracting.{extract_from_plan}
+use Rattle.rewriting.specs.Generated.{next_number}
+use Rattle.rewriting.specs.Outlay.{start_at}
+use Rattle.tables.proofs.Inputs.{tree-at}
+use Rattle.tables.specs.Holding.{model_of}
+use Rattle.tables.specs.declared.tables.Tables.{Tables}
 
 pub reached-opened : (m : Model) (fs : Functions) (text : List ℕ) → m ≡ opened fs text → Reached m
 reached-opened m fs text e = subst Reached (sym e) (opened-reached fs text)
@@ -27,3 +37,8 @@ told_same m i j (Ok b) h t e =
       same = a.same i j hi hj (eqb-true (origin_at m i) (origin_at m j) (sym t.1 ∙ yes));
       resolved = (a.resolved i hi, a.resolved j hj);
     }
+
+-- an extract over the tables is one of the book
+pub extract-answers : (t : Tables) (i : ℕ) (a : Answer) (m : Model) → Rewrites (model_of t) i (extracted t i) a m → Answers (model_of t) (extract i) a m
+extract-answers t i a m h =
+    subst (λ p. Rewrites (model_of t) i (extract_from_plan (model_of t).functions p (start_at (next_number (model_of t)))) a m) (sym (tree-at t i)) h

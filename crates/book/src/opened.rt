@@ -5,6 +5,7 @@ ghost use Rattle.tables.specs.Holding.{model_of};
 use tables::tables::Tables;
 
 mod expressions;
+mod extract;
 mod nodes;
 mod opening;
 mod promising;
