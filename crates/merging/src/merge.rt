@@ -27,8 +27,8 @@ use extracting::extractor::Extractor;
 use plan::fault::{Fault, Stage};
 use routing::owning::Side;
 use stepping::making::make_at;
-use table::table::Table;
 use stored::node::NewNode;
+use table::table::Table;
 use tables::tables::Tables;
 use terms::terms::Terms;
 

@@ -23,8 +23,8 @@ use numbering::alias::generated;
 use plan::fault::{Fault, Question, Stage};
 use routing::owning::Side;
 use stepping::making::{at_stage, make_at};
-use table::table::Table;
 use stored::node::NewNode;
+use table::table::Table;
 use tables::tables::Tables;
 use terms::terms::Terms;
 

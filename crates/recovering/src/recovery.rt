@@ -15,8 +15,8 @@ use crate::renaming::push_by_place;
 use entries::node::{ExprId, PlanId};
 use plan::fault::{Fault, Stage};
 use stepping::making::make_at;
-use table::table::Table;
 use stored::node::NewNode;
+use table::table::Table;
 use tables::tables::Tables;
 
 /// Makes the list of a recovery: by place if there are as many fields, else by name.

@@ -1,5 +1,6 @@
 //! Builds a broadcaster's report in a book, and prints each call with its answer, the plan, three refusals, the report with
-//! its bookings, versions of it by swaps and by a list of calls, a helper column, and what comes of the rows of a small log.
+//! its bookings, versions of it by swaps and by a list of calls, a helper column, what comes of the rows of a small log, and
+//! what an extract answers.
 #![tactic(auto)]
 
 use book::declaration::Book;
@@ -7,6 +8,7 @@ use book::opened::OpenBook;
 use bookings::{booked, latest_first};
 use entries::node::{ExprId, PlanId};
 use explain::explain;
+use extracted::show_extracted;
 use helper::{HELPER, helped_spots, kind_of};
 use listing::perform_list;
 use log_rows::{make_own, show_rows};
@@ -16,6 +18,7 @@ use versions::{compared, traced, version};
 
 mod bookings;
 mod explain;
+mod extracted;
 mod helper;
 mod listing;
 mod log_rows;
@@ -184,5 +187,8 @@ fn main(rt: HostRuntime) -> anyhow::Result<()> {
     println!(rt; "")?;
     let own = make_own(&rt, &mut open, kind)?;
     println!(rt; "")?;
-    show_rows(&rt, &open, report, own)
+    show_rows(&rt, &open, report, own)?;
+    println!(rt; "")?;
+    show_extracted(&rt, &mut open, report, sorted, later)?;
+    Ok(())
 }

@@ -42,8 +42,7 @@ here c =
     let both = c.into_iter-name-iterator.ensures.into_iter_gives in
     let first : iter_rest (zip_first c.into_iter-name-iterator.result) ≡ xs = cc in
     let second : iter_rest (zip_second c.into_iter-name-iterator.result) ≡ ys = cc (c.zip-name-items.ensures.second.0) in
-    let z = zip_turn xs ys c.loop-name.yielded c.into_iter-name-iterator.result c.loop-name.name-iterator c.next.new.self c.next.result first second c.loop-name.yielded_by (c.in-Some.name, c.in-Some.field) c.in-Some.is c.next.ensures.steps in
-    (
+    let z = zip_turn xs ys c.loop-name.yielded c.into_iter-name-iterator.result c.loop-name.name-iterator c.next.new.self c.next.result first second c.loop-name.yielded_by (c.in-Some.name, c.in-Some.field) c.in-Some.is c.next.ensures.steps in (
       at-place t c.args.old.0 xs (ap (map f) c.as_slice.ensures ∙ c.fields_apart-names.ensures.fields) (ap (every p) c.as_slice.ensures ∙ c.fields_apart-names.ensures.stored) c.loop-name.tables g (length c.loop-name.yielded) z.0 filler c.in-Some.name.now (z.2 filler),
       at-place t c.args.p.0 ys (ap (map f) c.as_slice-2.ensures ∙ c.fields_apart-fields.ensures.fields) (ap (every p) c.as_slice-2.ensures ∙ c.fields_apart-fields.ensures.stored) c.loop-name.tables g (length c.loop-name.yielded) z.1 filler c.in-Some.field.now (z.3 filler),
     )
