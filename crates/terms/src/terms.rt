@@ -20,6 +20,7 @@ pub struct Terms {
     exprs: Table<ExprRecord, 1024>,
     entries: Table<Entry, 2048>,
     ghost few: { length exprs ≤ 1024 },
+    ghost few_entries: { length entries ≤ 2048 },
     ghost sound: { sound (text_of lexicon) entries exprs ≡ true },
     ghost accepted: { every (acceptable (functions_of lexicon)) (trees (text_of lexicon) entries exprs) ≡ true },
     ghost sizes: { map (λ r. r.size) exprs ≡ map size_of (trees (text_of lexicon) entries exprs) },

@@ -15,7 +15,7 @@ invariant_of-self c =
     let es = t.entries in
     let r : ExprRecord = record { node = c.args.node; size = c.args.size; width = c.args.width } in
     let k = facts-pushed (functions_of t.lexicon) bs es t.exprs _ r c.push.ensures (facts-of t) (subst (λ j. inside_node bs es j c.args.node ≡ true) (counted t) c.requires.inside) c.requires.accepted c.requires.size c.requires.width in
-    record { few = omega (arith, ap length c.push.ensures, length_push t.exprs r, counted t, c.requires.room); sound = k.is-sound; accepted = k.is-accepted; sizes = k.has-sizes; widths = k.has-widths }
+    record { few = omega (arith, ap length c.push.ensures, length_push t.exprs r, counted t, c.requires.room); few_entries = t.few_entries; sound = k.is-sound; accepted = k.is-accepted; sizes = k.has-sizes; widths = k.has-widths }
 
 pub returns-clause-view : goal.returns-clause-view
 returns-clause-view c =

@@ -1,5 +1,5 @@
-use Rattle.std.proofs.Common.{[], map, sym, refl, rules, ◌∙◌}
-use Rattle.std.proofs.lemmas.List.{append-nil}
+use Rattle.std.proofs.Common.{[], map, length, sym, refl, rules, ap, ◌∙◌, arith, length-append}
+use Rattle.std.proofs.lemmas.List.{append-nil, length-map}
 use Rattle.table.proofs.Pushes.{pushed-map}
 use Rattle.lexicon.specs.Lexicon.{functions_of, text_of}
 use Rattle.terms.specs.Views.{view_of}
@@ -14,7 +14,8 @@ invariant_of-self g c =
     let grew = pushed-map _ g.T.Listed.entry (λ x d made. search rules) c.args.items.now _ _ c.push_each.ensures in
     let bs = text_of t.lexicon in
     let k = facts-grown (functions_of t.lexicon) _ bs [] bs t.entries (map g.T.Listed.entry c.args.items.now) _ t.exprs refl (sym (append-nil bs)) grew (facts-of t) in
-    record { few = t.few; sound = k.is-sound; accepted = k.is-accepted; sizes = k.has-sizes; widths = k.has-widths }
+    let added = map g.T.Listed.entry c.args.items.now in
+    record { few = t.few; few_entries = omega (arith, ap length grew, length-append t.entries added, length-map c.args.items.now g.T.Listed.entry, c.requires); sound = k.is-sound; accepted = k.is-accepted; sizes = k.has-sizes; widths = k.has-widths }
 
 pub returns-clause-view : goal.returns-clause-view
 returns-clause-view g c =

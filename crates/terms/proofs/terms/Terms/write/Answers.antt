@@ -11,7 +11,7 @@ invariant_of-self c =
     let t = c.args.self.now in
     let es = t.entries in
     let k = facts-grown (functions_of t.lexicon) _ (text_of t.lexicon) c.args.bytes.now _ es [] es t.exprs c.write.ensures.functions c.write.ensures.text (sym (append-nil es)) (facts-of t) in
-    record { few = t.few; sound = k.is-sound; accepted = k.is-accepted; sizes = k.has-sizes; widths = k.has-widths }
+    record { few = t.few; few_entries = t.few_entries; sound = k.is-sound; accepted = k.is-accepted; sizes = k.has-sizes; widths = k.has-widths }
 
 pub returns-clause-view : goal.returns-clause-view
 returns-clause-view c =
