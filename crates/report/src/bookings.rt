@@ -1,5 +1,6 @@
 //! The report with the client of each event, the latest start first.
 use crate::EQUAL;
+use crate::stopped::Stopped;
 use crate::telling::made;
 use book::opened::OpenBook;
 use entries::node::PlanId;
@@ -12,7 +13,7 @@ const LEFT: u8 = 1;
 const LATEST_FIRST: u8 = 3;
 
 /// Each row of the report with its bookings; one without a booking stays, with nulls.
-pub fn booked(rt: &impl Print, book: &mut OpenBook, report: PlanId) -> anyhow::Result<PlanId> {
+pub fn booked(rt: &impl Print, book: &mut OpenBook, report: PlanId) -> Result<PlanId, Stopped> {
     let bookings = made(
         rt,
         "table booking (event, client)",
@@ -33,7 +34,7 @@ pub fn booked(rt: &impl Print, book: &mut OpenBook, report: PlanId) -> anyhow::R
 }
 
 /// The rows by start, the latest first and those without a start last.
-pub fn latest_first(rt: &impl Print, book: &mut OpenBook, rows: PlanId) -> anyhow::Result<PlanId> {
+pub fn latest_first(rt: &impl Print, book: &mut OpenBook, rows: PlanId) -> Result<PlanId, Stopped> {
     let start = made(rt, "reference start", book.reference(b"start", None))?;
     let key = Key {
         by: start,

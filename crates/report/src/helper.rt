@@ -1,4 +1,5 @@
 //! The kind of an event as a helper column, which a projection computes and a filter above it reads.
+use crate::stopped::Stopped;
 use crate::telling::made;
 use crate::{EQUAL, GET_FIELD};
 use book::opened::OpenBook;
@@ -8,13 +9,13 @@ use entries::node::{ExprId, PlanId};
 pub const HELPER: &str = "__datafusion_extracted_100000000";
 
 /// The kind of an event.
-pub fn kind_of(rt: &impl Print, book: &mut OpenBook, event: ExprId) -> anyhow::Result<ExprId> {
+pub fn kind_of(rt: &impl Print, book: &mut OpenBook, event: ExprId) -> Result<ExprId, Stopped> {
     let kind = made(rt, "text kind", book.text(b"kind"))?;
     made(rt, "call get_field", book.call(GET_FIELD, &[event, kind]))
 }
 
 /// The rows where the helper column says spot.
-fn spots_of(rt: &impl Print, book: &mut OpenBook, rows: PlanId) -> anyhow::Result<PlanId> {
+fn spots_of(rt: &impl Print, book: &mut OpenBook, rows: PlanId) -> Result<PlanId, Stopped> {
     let helper = made(
         rt,
         "reference to the helper column",
@@ -32,7 +33,7 @@ pub fn helped_spots(
     rows: PlanId,
     event: ExprId,
     kind: ExprId,
-) -> anyhow::Result<PlanId> {
+) -> Result<PlanId, Stopped> {
     let helper = made(
         rt,
         "alias of the helper column",

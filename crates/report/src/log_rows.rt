@@ -1,5 +1,6 @@
 //! A small log through the report, row by row, and expressions of the program's own on its rows.
 use crate::explain::{show_bytes, show_columns, show_expression};
+use crate::stopped::Stopped;
 use crate::telling::{made, refused};
 use crate::{MISSING, PLUS};
 use book::opened::OpenBook;
@@ -62,7 +63,7 @@ pub fn make_own(
     rt: &impl Print,
     book: &mut OpenBook,
     kind: ExprId,
-) -> anyhow::Result<OwnExpressions> {
+) -> Result<OwnExpressions, Stopped> {
     let missing = made(rt, "call missing", book.call(MISSING, &[kind]))?;
     let most = made(rt, "whole 9223372036854775807", book.whole(i64::MAX))?;
     let one = made(rt, "whole 1", book.whole(1))?;
@@ -194,7 +195,7 @@ pub fn show_rows<'x>(
     book: &'x OpenBook,
     p: PlanId,
     own: OwnExpressions,
-) -> anyhow::Result<()> {
+) -> Result<(), Stopped> {
     let report = report_of(book, p)?;
     let entries = [
         kind(0, SPOT),

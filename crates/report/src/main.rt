@@ -13,6 +13,7 @@ use helper::{HELPER, helped_spots, kind_of};
 use listing::perform_list;
 use log_rows::{make_own, show_rows};
 use std::io;
+use stopped::Stopped;
 use telling::{declared, made, told};
 use versions::{compared, traced, version};
 
@@ -22,6 +23,7 @@ mod extracted;
 mod helper;
 mod listing;
 mod log_rows;
+mod stopped;
 mod telling;
 mod versions;
 
@@ -59,7 +61,7 @@ fn declare(rt: &impl Print, book: &mut Book) -> io::Result<()> {
 /// A hundred rows of the log.
 // `rt` and `book` stay two parameters, here and below: in a struct each call would read
 // `made(self.rt, .., self.book.limit(..))`, since `self.made(.., self.book.limit(..))` borrows the struct twice.
-fn hundred_rows(rt: &impl Print, book: &mut OpenBook) -> anyhow::Result<PlanId> {
+fn hundred_rows(rt: &impl Print, book: &mut OpenBook) -> Result<PlanId, Stopped> {
     let log = made(
         rt,
         "table log (event, start)",
@@ -69,7 +71,7 @@ fn hundred_rows(rt: &impl Print, book: &mut OpenBook) -> anyhow::Result<PlanId> 
 }
 
 /// The list that adds 50 to the start, under the same name.
-fn later_start(rt: &impl Print, book: &mut OpenBook, rows: PlanId) -> anyhow::Result<PlanId> {
+fn later_start(rt: &impl Print, book: &mut OpenBook, rows: PlanId) -> Result<PlanId, Stopped> {
     let event = made(
         rt,
         "reference log.event",
@@ -87,7 +89,7 @@ fn later_start(rt: &impl Print, book: &mut OpenBook, rows: PlanId) -> anyhow::Re
 }
 
 /// Events whose kind is a spot.
-fn spots(rt: &impl Print, book: &mut OpenBook, rows: PlanId) -> anyhow::Result<PlanId> {
+fn spots(rt: &impl Print, book: &mut OpenBook, rows: PlanId) -> Result<PlanId, Stopped> {
     let event = made(rt, "reference event", book.reference(b"event", None))?;
     let kind = made(rt, "text kind", book.text(b"kind"))?;
     let field = made(rt, "call get_field", book.call(GET_FIELD, &[event, kind]))?;
@@ -96,7 +98,7 @@ fn spots(rt: &impl Print, book: &mut OpenBook, rows: PlanId) -> anyhow::Result<P
     made(rt, "filter", book.filter(rows, equal))
 }
 
-fn refusals(rt: &impl Print, book: &mut OpenBook, rows: PlanId) -> anyhow::Result<()> {
+fn refusals(rt: &impl Print, book: &mut OpenBook, rows: PlanId) -> Result<(), Stopped> {
     told(
         rt,
         "reference with a comma in its name",
@@ -121,7 +123,7 @@ fn show_bookings(
     rt: &impl Print,
     book: &mut OpenBook,
     report: PlanId,
-) -> anyhow::Result<(PlanId, PlanId)> {
+) -> Result<(PlanId, PlanId), Stopped> {
     let joined = booked(rt, book, report)?;
     let sorted = latest_first(rt, book, joined)?;
     println!(rt; "")?;
@@ -136,7 +138,7 @@ fn show_version(
     report: PlanId,
     later: PlanId,
     rows: PlanId,
-) -> anyhow::Result<PlanId> {
+) -> Result<PlanId, Stopped> {
     let version = version(rt, book, report, later, rows)?;
     println!(rt; "")?;
     explain(rt, book, version)?;
@@ -149,7 +151,7 @@ fn show_version(
 }
 
 /// Spots by a helper column, built, printed and traced; the expression of the kind.
-fn show_helper(rt: &impl Print, book: &mut OpenBook, rows: PlanId) -> anyhow::Result<ExprId> {
+fn show_helper(rt: &impl Print, book: &mut OpenBook, rows: PlanId) -> Result<ExprId, Stopped> {
     let event = made(
         rt,
         "reference log.event",
@@ -164,7 +166,7 @@ fn show_helper(rt: &impl Print, book: &mut OpenBook, rows: PlanId) -> anyhow::Re
     Ok(kind)
 }
 
-fn main(rt: HostRuntime) -> anyhow::Result<()> {
+fn main(rt: HostRuntime) -> Result<(), Stopped> {
     let mut book = Book::new();
     declare(&rt, &mut book)?;
     let mut open = book.open();

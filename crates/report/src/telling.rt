@@ -1,6 +1,7 @@
 //! One line for each call: what was asked for, and what was answered.
 ghost use Rattle.std.specs.Prelude.{◌≡◌, Ok, IfOk};
 
+use crate::stopped::Stopped;
 use anyhow::anyhow;
 use entries::node::{ExprId, PlanId};
 use plan::fault::Fault;
@@ -60,9 +61,13 @@ pub fn told<T: Numbered>(rt: &impl Print, what: &str, answer: Result<T, Fault>) 
 }
 
 /// Tells what a call was answered, and gives what it made; a refusal ends the program.
-pub fn made<T: Numbered>(rt: &impl Print, what: &str, answer: Result<T, Fault>) -> anyhow::Result<T>
+pub fn made<T: Numbered>(
+    rt: &impl Print,
+    what: &str,
+    answer: Result<T, Fault>,
+) -> Result<T, Stopped>
     ensures { IfOk result (λ made. answer ≡ Ok made) }
 {
     told(rt, what, answer)?;
-    answer.map_err(|_| anyhow!("refused: {what}"))
+    answer.map_err(|_| Stopped::Other(anyhow!("refused: {what}")))
 }

@@ -1,5 +1,6 @@
 //! Versions of a node by swaps, and what the book says of its nodes: whether two have one origin, and which gives a column
 //! its name.
+use crate::stopped::Stopped;
 use crate::telling::{made, refused, told};
 use book::opened::OpenBook;
 use entries::node::PlanId;
@@ -13,7 +14,7 @@ pub fn version(
     report: PlanId,
     later: PlanId,
     rows: PlanId,
-) -> anyhow::Result<PlanId> {
+) -> Result<PlanId, Stopped> {
     let again = made(
         rt,
         "swap the input of the projection for itself",
